@@ -1,15 +1,22 @@
--- The commands are made of their options, and are of the kind of which `clap` says exactly what words it takes.
-use Rattle.std.proofs.Common.{◌≡◌, ◌∙◌, true, false, ap₂, refl}
+-- Commands take their options one by one, and are of the kind of which `clap` says exactly what words it takes.
+use Rattle.std.proofs.Common.{◌≡◌, ◌∙◌, ◌+◌, ◌<◌, ◌++◌, ◌∷◌, [], ℕ, List, Bor, true, false, ap, ap₂, append_assoc, get_or, length, map, refl, sym, take}
+use Rattle.std.proofs.lemmas.List.{map_more}
 use Rattle.clap.specs.Built.{AddsArg}
 use Rattle.clap.specs.Words.{App, Rule, app_of, is_simple_and_free, rule_of, with_rule}
 use Rattle.clap.specs.declared.builder.arg.Arg.{Arg}
 use Rattle.clap.specs.declared.builder.command.Command.{Command}
 use Rattle.command_words.specs.Asked.{check_command, classed_command, edit_command, fill_command, make_command, page_command, panel_command}
+use Rattle.command_words.specs.inner.Made.{with_rules}
 
--- a command with one option more
-pub one_more : (before : App) (option : Rule) (old new : Command) (arg : Arg) → app_of old ≡ before → rule_of arg ≡ option → arg.global ≡ false
-    → AddsArg old arg new → app_of new ≡ with_rule before option
-one_more before option old new arg is made local adds = adds.shape local ∙ ap₂ with_rule is made
+-- a command that has the options of the first names has those of one name more
+pub one_more : (option : Bor (List ℕ) → Rule) (first : App) (names : List (Bor (List ℕ))) (i : ℕ) (none : Bor (List ℕ))
+    (old new : Command) (arg : Arg) → i < length names → app_of old ≡ with_rules first (map option (take i names))
+    → rule_of arg ≡ option (get_or names i none) → arg.global ≡ false → AddsArg old arg new
+    → app_of new ≡ with_rules first (map option (take (i + 1) names))
+one_more option first names i none old new arg below is made local adds =
+    adds.shape local ∙ ap₂ with_rule is made
+    ∙ ap (λ (rules : List Rule). record first { top = record first.top { rules = rules } })
+    (append_assoc first.top.rules _ _ ∙ ap (λ (more : List Rule). first.top.rules ++ more) (sym (map_more option names i none below)))
 
 pub edit_simple : is_simple_and_free edit_command ≡ true
 edit_simple = refl

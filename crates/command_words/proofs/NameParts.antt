@@ -10,7 +10,8 @@ unfolding file_parts
 behind_here name part rest here e = sym (ap without_here e ∙ ap (λ (b : Bool). if b then rest else part ∷ rest) here)
 
 -- and with no `.` in front they are all
-pub all_parts : (name part : List ℕ) (rest : List (List ℕ)) → bytes_eq part cur_dir ≡ false → path_components name ≡ part ∷ rest → path_components name ≡ file_parts name
+pub all_parts : (name part : List ℕ) (rest : List (List ℕ)) → bytes_eq part cur_dir ≡ false → path_components name ≡ part ∷ rest
+    → path_components name ≡ file_parts name
 unfolding file_parts
 all_parts name part rest other e = sym (ap without_here e ∙ ap (λ (b : Bool). if b then rest else part ∷ rest) other ∙ sym e)
 

@@ -1,3 +1,7 @@
+//! The words of the command `check`: from the command line to the names of the four files that it reads.
+//!
+//! In contracts a row is what `clap` found for one option. `GivesCheck` says what the rows ask for, and
+//! `IsCheck` what the words do.
 ghost use Rattle.std.specs.Prelude.{◌≡◌, ◌↔◌, ◌∷◌, [], IfOk, IfSome, IfNone, IsTrue, map, string_bytes};
 ghost use Rattle.clap.specs.Words.{app_of};
 ghost use Rattle.command_words.specs.Asked.{CheckAsked, GivesCheck, IsCheck, check_command};
@@ -5,7 +9,7 @@ ghost use Rattle.command_words.specs.FileNames.{AreApart};
 ghost use Rattle.command_words.specs.inner.Found.{rows_in};
 
 use crate::file_names::{is_apart_from, lead_to_one};
-use crate::options::{command_named, found_in, required, text_in, words_behind};
+use crate::options::{command_named, found_in, text_in, with_required, words_behind};
 use clap::{ArgMatches, Command};
 use foundation::OutOfMemory;
 use std::alloc::Global;
@@ -32,10 +36,10 @@ impl<'a> Model for CheckWords<'a> {
     ghost view = { λ w. record { rules = w.rules.now; records = w.records.now; released = w.released.now; proof = w.proof.now } };
 }
 
-/// Reads the words after the program's name as the command `check` with the options `--rules`, `--records`,
-/// `--released` and `--proof`, each with a file's name. The options stand as `clap` takes them, and the four names
-/// differ. What is asked for is all that the words can be read as, and there is None exactly where they are no such
-/// command.
+/// Reads the words after the program's name as the command `check`. The options `--rules`, `--records`,
+/// `--released` and `--proof` each have a file's name. The options stand as `clap` takes them, and no two
+/// of the four names lead to one file, as far as the names show it. The words are read in no other way, and
+/// None is answered exactly where they are no such command.
 pub fn check_asked<'a>(
     alloc: Global,
     words: &'a [String],
@@ -54,19 +58,19 @@ pub fn check_asked<'a>(
     Ok(check_of(&found))
 }
 
-// The command and its options.
+// The command `check`, as `clap` is told of it: four options, each of which has to stand.
 fn command<'a>(alloc: Global) -> Result<Command<'a>, OutOfMemory>
     ensures { IfOk result (λ command. app_of command ≡ check_command) }
 {
-    let command = command_named(alloc, "check")
-        .arg(required(alloc, "rules"))?
-        .arg(required(alloc, "records"))?
-        .arg(required(alloc, "released"))?
-        .arg(required(alloc, "proof"))?;
-    Ok(command)
+    with_required(
+        alloc,
+        command_named(alloc, "check"),
+        &["rules", "records", "released", "proof"],
+    )
 }
 
-// What a check is asked for by what was found for its options.
+// What a check is asked for, by what was found for its options. None where one of the four was left out,
+// or two names lead to one file.
 fn check_of<'a>(found: &ArgMatches<'a>) -> Option<CheckWords<'a>>
     ensures some { IfSome result (GivesCheck (rows_in found.now)) }
     ensures none { IfNone result ((asked : CheckAsked) → ¬ GivesCheck (rows_in found.now) asked) }
@@ -86,7 +90,7 @@ fn check_of<'a>(found: &ArgMatches<'a>) -> Option<CheckWords<'a>>
     })
 }
 
-// Whether no two of the names lead to one file.
+// Whether no two of the names lead to one file, as far as the names show.
 fn are_apart(rules: &str, records: &str, released: &str, proof: &str) -> bool
     ensures { IsTrue result ↔ AreApart (rules.now ∷ records.now ∷ released.now ∷ proof.now ∷ []) }
 {

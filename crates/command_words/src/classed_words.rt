@@ -1,16 +1,22 @@
+//! The words of the command `classed`: those of an edit, and the name of the field by whose codes records
+//! are in classes.
+//!
+//! In contracts a row is what `clap` found for one option. `GivesClassed` says what the rows ask for, and
+//! `IsClassed` what the words do.
 ghost use Rattle.std.specs.Prelude.{◌≡◌, IfOk, IfSome, IfNone, map, string_bytes};
 ghost use Rattle.clap.specs.Words.{app_of};
 ghost use Rattle.command_words.specs.Asked.{ClassedAsked, GivesClassed, IsClassed, classed_command};
 ghost use Rattle.command_words.specs.inner.Found.{rows_in};
 
 use crate::edit_words::{EditWords, edit_command_named, edit_of};
-use crate::options::{found_in, required, text_in, words_behind};
+use crate::options::{found_in, text_in, with_required, words_behind};
 use clap::{ArgMatches, Command};
 use foundation::OutOfMemory;
 use std::alloc::Global;
 use std::marker::Model;
 
-/// What the command `classed` was asked for: an edit, and a field's name, which is not compared with the names of files.
+/// What the command `classed` was asked for: an edit, and a field's name, which is not compared with the
+/// names of files.
 #[derive(Debug, Drop)]
 pub struct ClassedWords<'a> {
     /// The edit.
@@ -27,9 +33,9 @@ impl<'a> Model for ClassedWords<'a> {
     ghost view = { λ w. record { edit = w.edit; class = w.class.now } };
 }
 
-/// Reads the words after the program's name as the command `classed` with the options that [`edit_asked`] takes, by the same
-/// rules, and `--class`, with a field's name, which has to stand. What is asked for is all that the words can be read as, and
-/// there is None exactly where they are no such command.
+/// Reads the words after the program's name as the command `classed`. It has the options that
+/// [`edit_asked`] takes, by the same rules, and `--class`, with a field's name, which has to stand. The
+/// words are read in no other way, and None is answered exactly where they are no such command.
 ///
 /// [`edit_asked`]: crate::edit_asked
 pub fn classed_asked<'a>(
@@ -50,15 +56,16 @@ pub fn classed_asked<'a>(
     Ok(classed_of(&found))
 }
 
-// The command and its options.
+// The command `classed`, as `clap` is told of it: the options of an edit, and `--class`.
 fn command<'a>(alloc: Global) -> Result<Command<'a>, OutOfMemory>
     ensures { IfOk result (λ command. app_of command ≡ classed_command) }
 {
-    let command = edit_command_named(alloc, "classed")?.arg(required(alloc, "class"))?;
-    Ok(command)
+    let command = edit_command_named(alloc, "classed")?;
+    with_required(alloc, command, &["class"])
 }
 
-// What is asked for by what was found for the options.
+// What is asked for by what was found for the options. None where they give no edit (`edit_of`), or
+// `--class` was left out.
 fn classed_of<'a>(found: &ArgMatches<'a>) -> Option<ClassedWords<'a>>
     ensures some { IfSome result (GivesClassed (rows_in found.now)) }
     ensures none { IfNone result ((asked : ClassedAsked) → ¬ GivesClassed (rows_in found.now) asked) }

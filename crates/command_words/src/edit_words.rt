@@ -1,3 +1,8 @@
+//! The words of the command `edit`: from the command line to the names of its files and its numbers. The
+//! command `classed` takes the same options and one more.
+//!
+//! In contracts a row is what `clap` found for one option. `GivesEdit` says what the rows ask for, and
+//! `IsEdit` what the words do.
 ghost use Rattle.std.specs.Prelude.{◌≡◌, ◌↔◌, ◌∷◌, [], IfOk, IfSome, IfNone, IsTrue, map, string_bytes};
 ghost use Rattle.clap.specs.Words.{app_of};
 ghost use Rattle.command_words.specs.Asked.{EditAsked, GivesEdit, IsEdit, edit_options};
@@ -7,33 +12,39 @@ ghost use Rattle.command_words.specs.inner.Found.{rows_in};
 
 use crate::file_names::{is_apart_from, lead_to_one};
 use crate::options::{
-    BUDGET, LEAST_BUDGET, MOST_BUDGET, command_named, found_in, number_in, optional, required,
-    text_in, words_behind,
+    BUDGET, LEAST_BUDGET, MOST_BUDGET, command_named, found_in, number_in, text_in, with_optional,
+    with_required, words_behind,
 };
 use clap::{ArgMatches, Command};
 use foundation::OutOfMemory;
 use std::alloc::Global;
 use std::marker::Model;
 
-/// How many workers edit the records where no number is given, the least that can be given, and the most.
+/// How many workers edit the records where no number is given.
 const WORKERS: u64 = 1;
 
+/// The least number of workers that can be given.
 const LEAST_WORKERS: u64 = 1;
 
+/// The most workers that can be given.
 const MOST_WORKERS: u64 = 64;
 
-/// How often a donor may be given where no limit is given, the least that can be given, and the most.
+/// How often a donor may be given where no limit is given.
 const LIMIT: u64 = 1;
 
+/// The least limit that can be given.
 const LEAST_LIMIT: u64 = 1;
 
+/// The most limit that can be given.
 const MOST_LIMIT: u64 = 1_000;
 
-/// How many donors a record ranks where no number is given, the least that can be given, and the most.
+/// How many donors a record ranks where no number is given.
 const NEAR: u64 = 5;
 
+/// The least number of donors to rank that can be given.
 const LEAST_NEAR: u64 = 1;
 
+/// The most donors to rank that can be given.
 const MOST_NEAR: u64 = 64;
 
 /// What an edit was asked for, by the command `edit` or by `classed`. No two names lead to one file.
@@ -85,12 +96,11 @@ impl<'a> Model for EditWords<'a> {
         × InBounds w.workers w.budget w.limit w.near };
 }
 
-/// Reads the words after the program's name as the command `edit` with the options `--rules`, `--records`,
-/// `--released`, `--reasons` and `--proof`, each with a file's name, and `--workers`, `--budget`, `--limit` and
-/// `--near`, each with a number of 1 to 10 digits, which may be left out: there is one worker then, the budget is
-/// 1,000,000, a donor is given once, and a record ranks 5 donors. The options stand as `clap` takes them, and no two of
-/// the five names lead to one file, as far as the names show it. What is asked for is all that the words can be read
-/// as, and there is None exactly where they are no such command.
+/// Reads the words after the program's name as the command `edit`. `--rules`, `--records`, `--released`,
+/// `--reasons` and `--proof` each have a file's name; no two lead to one file, as far as the names show
+/// it. `--workers`, `--budget`, `--limit` and `--near` each have a number of 1 to 10 digits. Left out,
+/// they are 1, 1,000,000, 1 and 5. The options stand as `clap` takes them. The words are read in no other
+/// way, and None is answered exactly where they are no such command.
 pub fn edit_asked<'a>(
     alloc: Global,
     words: &'a [String],
@@ -109,27 +119,23 @@ pub fn edit_asked<'a>(
     Ok(edit_of(&found))
 }
 
-/// The command of this name, with the options of an edit.
+/// The command of this name, with the options of an edit. Both `edit` and `classed` have them.
 pub(crate) fn edit_command_named<'a>(
     alloc: Global,
     name: &'a str,
 ) -> Result<Command<'a>, OutOfMemory>
     ensures { IfOk result (λ command. app_of command ≡ command_with name.entry.now edit_options) }
 {
-    let command = command_named(alloc, name)
-        .arg(required(alloc, "rules"))?
-        .arg(required(alloc, "records"))?
-        .arg(required(alloc, "released"))?
-        .arg(required(alloc, "reasons"))?
-        .arg(required(alloc, "proof"))?
-        .arg(optional(alloc, "workers"))?
-        .arg(optional(alloc, "budget"))?
-        .arg(optional(alloc, "limit"))?
-        .arg(optional(alloc, "near"))?;
-    Ok(command)
+    let command = with_required(
+        alloc,
+        command_named(alloc, name),
+        &["rules", "records", "released", "reasons", "proof"],
+    )?;
+    with_optional(alloc, command, &["workers", "budget", "limit", "near"])
 }
 
-/// What an edit is asked for by what was found for its options.
+/// What an edit is asked for, by what was found for its options. None where one of the five names was left
+/// out, a number is out of its bounds, or two names lead to one file.
 pub(crate) fn edit_of<'a>(found: &ArgMatches<'a>) -> Option<EditWords<'a>>
     ensures some { IfSome result (GivesEdit (rows_in found.now)) }
     ensures none { IfNone result ((asked : EditAsked) → ¬ GivesEdit (rows_in found.now) asked) }

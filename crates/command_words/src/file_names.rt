@@ -1,4 +1,5 @@
-//! Whether the names of two files show that they lead to one file.
+//! Whether the names of two files show that they lead to one file, so that a command would overwrite what
+//! it reads. A link is not seen, since no file is looked at.
 ghost use Rattle.std.specs.Prelude.{◌≡◌, ◌↔◌, IsTrue};
 ghost use Rattle.std.specs.List.{AllByRecursion, list_any};
 ghost use Rattle.std.specs.Path.{components_remaining};
@@ -30,7 +31,8 @@ pub(crate) fn lead_to_one(a: &str, b: &str) -> bool
     right.next().is_none()
 }
 
-// The folders that the name leads through, and the file.
+// The folders that the name leads through, and the file. A `.` in front is passed over here, as
+// `components` passes over it anywhere else.
 fn parts_of(name: &str) -> Components<'_>
     ensures { components_remaining result ≡ file_parts name.now }
 {

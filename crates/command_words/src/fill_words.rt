@@ -1,3 +1,7 @@
+//! The words of the command `fill`: from the command line to the names of its three files and its budget.
+//!
+//! In contracts a row is what `clap` found for one option. `GivesFill` says what the rows ask for, and
+//! `IsFill` what the words do.
 ghost use Rattle.std.specs.Prelude.{◌≡◌, ◌↔◌, ◌∷◌, [], IfOk, IfSome, IfNone, IsTrue, map, string_bytes};
 ghost use Rattle.clap.specs.Words.{app_of};
 ghost use Rattle.command_words.specs.Asked.{FillAsked, GivesFill, IsFill, fill_command};
@@ -6,8 +10,8 @@ ghost use Rattle.command_words.specs.inner.Found.{rows_in};
 
 use crate::file_names::{is_apart_from, lead_to_one};
 use crate::options::{
-    BUDGET, LEAST_BUDGET, MOST_BUDGET, command_named, found_in, number_in, optional, required,
-    text_in, words_behind,
+    BUDGET, LEAST_BUDGET, MOST_BUDGET, command_named, found_in, number_in, text_in, with_optional,
+    with_required, words_behind,
 };
 use clap::{ArgMatches, Command};
 use foundation::OutOfMemory;
@@ -40,11 +44,11 @@ impl<'a> Model for FillWords<'a> {
     ghost invariant = { λ w. AreApart (w.rules.now ∷ w.records.now ∷ w.released.now ∷ []) × (1 ≤ w.budget) × (w.budget ≤ most_work) };
 }
 
-/// Reads the words after the program's name as the command `fill` with the options `--rules`, `--records` and
-/// `--released`, each with a file's name, and `--budget`, with a number of 1 to 10 digits, which may be left out: it is
-/// 1,000,000 then. The options stand as `clap` takes them, and no two of the three names lead to one file, as far as
-/// the names show it. What is asked for is all that the words can be read as, and there is None exactly where they are
-/// no such command.
+/// Reads the words after the program's name as the command `fill`. The options `--rules`, `--records` and
+/// `--released` each have a file's name. The option `--budget` has a number of 1 to 10 digits, and may be
+/// left out: it is 1,000,000 then. The options stand as `clap` takes them, and no two of the three names
+/// lead to one file, as far as the names show it. The words are read in no other way, and None is answered
+/// exactly where they are no such command.
 pub fn fill_asked<'a>(
     alloc: Global,
     words: &'a [String],
@@ -63,19 +67,20 @@ pub fn fill_asked<'a>(
     Ok(fill_of(&found))
 }
 
-// The command and its options.
+// The command `fill`, as `clap` is told of it: three options that have to stand, and the budget.
 fn command<'a>(alloc: Global) -> Result<Command<'a>, OutOfMemory>
     ensures { IfOk result (λ command. app_of command ≡ fill_command) }
 {
-    let command = command_named(alloc, "fill")
-        .arg(required(alloc, "rules"))?
-        .arg(required(alloc, "records"))?
-        .arg(required(alloc, "released"))?
-        .arg(optional(alloc, "budget"))?;
-    Ok(command)
+    let command = with_required(
+        alloc,
+        command_named(alloc, "fill"),
+        &["rules", "records", "released"],
+    )?;
+    with_optional(alloc, command, &["budget"])
 }
 
-// What is asked for by what was found for the options.
+// What is asked for by what was found for the options. None where one of the three names was left out, the
+// budget is out of its bounds, or two names lead to one file.
 fn fill_of<'a>(found: &ArgMatches<'a>) -> Option<FillWords<'a>>
     ensures some { IfSome result (GivesFill (rows_in found.now)) }
     ensures none { IfNone result ((asked : FillAsked) → ¬ GivesFill (rows_in found.now) asked) }
@@ -95,7 +100,7 @@ fn fill_of<'a>(found: &ArgMatches<'a>) -> Option<FillWords<'a>>
     })
 }
 
-// Whether no two of the names lead to one file.
+// Whether no two of the names lead to one file, as far as the names show.
 fn are_apart(rules: &str, records: &str, released: &str) -> bool
     ensures { IsTrue result ↔ AreApart (rules.now ∷ records.now ∷ released.now ∷ []) }
 {

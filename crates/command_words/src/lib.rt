@@ -1,6 +1,7 @@
-//! What the words of the command line ask for: a command, and its options with their values, as the crate `clap` takes
-//! them. Begin with [`edit_asked`], [`classed_asked`], [`check_asked`], [`rules_asked`], [`fill_asked`],
-//! [`panel_asked`], [`make_asked`] and [`page_asked`]; which words are which command stands in `specs/Asked.antt`.
+//! What the words of the command line ask for: a command, and its options with their values, as the crate
+//! `clap` takes them. Begin with [`edit_asked`], [`classed_asked`], [`check_asked`], [`rules_asked`],
+//! [`fill_asked`], [`panel_asked`], [`make_asked`] and [`page_asked`]; which words are which command
+//! stands in `specs/Asked.antt`.
 #![tactic(auto)]
 
 mod check_words;

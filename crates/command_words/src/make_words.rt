@@ -1,3 +1,8 @@
+//! The words of the command `make`: from the command line to the names of its two files and its two
+//! numbers.
+//!
+//! In contracts a row is what `clap` found for one option. `GivesMake` says what the rows ask for, and
+//! `IsMake` what the words do.
 ghost use Rattle.std.specs.Prelude.{◌≡◌, IfOk, IfSome, IfNone, map, string_bytes};
 ghost use Rattle.clap.specs.Words.{app_of};
 ghost use Rattle.command_words.specs.Asked.{GivesMake, IsMake, MakeAsked, make_command};
@@ -5,25 +10,29 @@ ghost use Rattle.command_words.specs.inner.Found.{rows_in};
 
 use crate::file_names::lead_to_one;
 use crate::options::{
-    command_named, found_in, number_in, optional, required, text_in, words_behind,
+    command_named, found_in, number_in, text_in, with_optional, with_required, words_behind,
 };
 use clap::{ArgMatches, Command};
 use foundation::OutOfMemory;
 use std::alloc::Global;
 use std::marker::Model;
 
-/// The number that the records follow from where none is given, the least that can be given, and the most.
+/// The number `start`, from which the records follow, where none is given.
 const START: u64 = 1;
 
+/// The least `start` that can be given.
 const LEAST_START: u64 = 0;
 
+/// The greatest `start` that can be given: 2^32 - 1.
 const MOST_START: u64 = 4_294_967_295;
 
-/// How many records are made where no number is given, the least that can be given, and the most.
+/// How many records are made where no number is given.
 const ROWS: u64 = 100;
 
+/// The least number of records that can be given.
 const LEAST_ROWS: u64 = 1;
 
+/// The most records that can be given: as many as a record file may have.
 const MOST_ROWS: u64 = 200_000;
 
 /// What the command `make` was asked for. The two names lead to two files.
@@ -51,10 +60,10 @@ impl<'a> Model for MakeWords<'a> {
     ghost invariant = { λ w. AreApart (w.rules.now ∷ w.records.now ∷ []) };
 }
 
-/// Reads the words after the program's name as the command `make` with the options `--rules` and `--records`, each with a
-/// file's name, and `--start` and `--rows`, each with a number of 1 to 10 digits, which may be left out: the records follow
-/// from 1 then, and there are 100. The options stand as `clap` takes them, and the two names lead to two files, as far as they show it. What is asked for is
-/// all that the words can be read as, and there is None exactly where they are no such command.
+/// Reads the words after the program's name as the command `make`. `--rules` and `--records` each have a
+/// file's name; they lead to two files, as far as the names show it. `--start` and `--rows` each have a
+/// number of 1 to 10 digits, or are left out: they are 1 and 100 then. The options stand as `clap` takes
+/// them. The words are read in no other way, and None is answered exactly where they are no such command.
 pub fn make_asked<'a>(
     alloc: Global,
     words: &'a [String],
@@ -73,19 +82,17 @@ pub fn make_asked<'a>(
     Ok(make_of(&found))
 }
 
-// The command and its options.
+// The command `make`, as `clap` is told of it: two options that have to stand, and two that may be left
+// out.
 fn command<'a>(alloc: Global) -> Result<Command<'a>, OutOfMemory>
     ensures { IfOk result (λ command. app_of command ≡ make_command) }
 {
-    let command = command_named(alloc, "make")
-        .arg(required(alloc, "rules"))?
-        .arg(required(alloc, "records"))?
-        .arg(optional(alloc, "start"))?
-        .arg(optional(alloc, "rows"))?;
-    Ok(command)
+    let command = with_required(alloc, command_named(alloc, "make"), &["rules", "records"])?;
+    with_optional(alloc, command, &["start", "rows"])
 }
 
-// What is to be made by what was found for the options.
+// What is to be made, by what was found for the options. None where one of the names was left out, a
+// number is out of its bounds, or both names lead to one file.
 fn make_of<'a>(found: &ArgMatches<'a>) -> Option<MakeWords<'a>>
     ensures some { IfSome result (GivesMake (rows_in found.now)) }
     ensures none { IfNone result ((asked : MakeAsked) → ¬ GivesMake (rows_in found.now) asked) }

@@ -1,24 +1,33 @@
+//! What all commands share of their words: how `clap` is told of options, and how texts and numbers are
+//! taken out of what it finds.
+//!
+//! In contracts a row is what `clap` found for one option, and `first_of` is the text of the first row of
+//! a name. `app_of` is what `clap` is told of a command, and `Takes` says that it finds this in the words.
 ghost use Rattle.std.specs.Prelude.{◌≡◌, ◌≢◌, ◌∷◌, [], ℕ, List, true, false, Some, None, IfOk, IfSome, IfNone, map, string_bytes};
 ghost use Rattle.clap.specs.Words.{app_of, fault_of, first_of, is_simple_and_free, rule_of};
 ghost use Rattle.command_words.specs.Options.{GivesNumber, IsNumberText, command_with, may_stand, must_stand};
 ghost use Rattle.command_words.specs.inner.Found.{Takes, rows_in};
+ghost use Rattle.command_words.specs.inner.Made.{with_rules};
 
 use clap::error::ErrorKind;
 use clap::{Arg, ArgAction, ArgMatches, Command};
 use foundation::OutOfMemory;
 use std::alloc::Global;
 
-/// The most work on one record where no budget is given, the least that can be given, and the most.
+/// The most work on one record where no budget is given.
 pub(crate) const BUDGET: u64 = 1_000_000;
 
+/// The least budget that can be given.
 pub(crate) const LEAST_BUDGET: u64 = 1;
 
+/// The most budget that can be given.
 pub(crate) const MOST_BUDGET: u64 = 1_000_000_000;
 
-/// The most digits of a number.
+/// The most digits of a number. So no number passes 64 bits.
 const MOST_DIGITS: usize = 10;
 
-/// The command of this name, without an option so far. No flag asks for its help.
+/// The command of this name, without an option so far. The words that it is matched with begin behind its
+/// name. No flag asks for its help, so `--help` is no word of it.
 pub(crate) fn command_named<'a>(alloc: Global, name: &'a str) -> Command<'a>
     ensures { app_of result ≡ command_with name.entry.now [] }
 {
@@ -27,23 +36,52 @@ pub(crate) fn command_named<'a>(alloc: Global, name: &'a str) -> Command<'a>
         .disable_help_flag(true)
 }
 
-/// The option `--name`, which is given one value where it stands.
-pub(crate) fn optional<'a>(alloc: Global, name: &'a str) -> Arg<'a>
+// The option `--name`, which is given one value where it stands.
+fn optional_arg<'a>(alloc: Global, name: &'a str) -> Arg<'a>
     ensures option { rule_of result ≡ may_stand name.entry.now }
     ensures local { result.global ≡ false }
 {
     Arg::new(alloc, name).long(name).action(ArgAction::Set)
 }
 
-/// The option `--name`, which has to stand and is given one value.
-pub(crate) fn required<'a>(alloc: Global, name: &'a str) -> Arg<'a>
+// The option `--name`, which has to stand and is given one value.
+fn required_arg<'a>(alloc: Global, name: &'a str) -> Arg<'a>
     ensures option { rule_of result ≡ must_stand name.entry.now }
     ensures local { result.global ≡ false }
 {
-    optional(alloc, name).required(true)
+    optional_arg(alloc, name).required(true)
 }
 
-/// The words behind the name of a command, where the first word is that name. No memory.
+/// The command with one more option for each of `names`, in order: `--name`, which has to stand.
+pub(crate) fn with_required<'a>(
+    alloc: Global,
+    mut command: Command<'a>,
+    names: &[&'a str],
+) -> Result<Command<'a>, OutOfMemory>
+    ensures { IfOk result (λ more. app_of more ≡ with_rules (app_of command.entry) (map (λ name. must_stand name.now) names.now)) }
+{
+    for name in names {
+        command = command.arg(required_arg(alloc, name))?;
+    }
+    Ok(command)
+}
+
+/// The command with one more option for each of `names`, in order: `--name`, which may be left out.
+pub(crate) fn with_optional<'a>(
+    alloc: Global,
+    mut command: Command<'a>,
+    names: &[&'a str],
+) -> Result<Command<'a>, OutOfMemory>
+    ensures { IfOk result (λ more. app_of more ≡ with_rules (app_of command.entry) (map (λ name. may_stand name.now) names.now)) }
+{
+    for name in names {
+        command = command.arg(optional_arg(alloc, name))?;
+    }
+    Ok(command)
+}
+
+/// The words behind the first one, where that is the command's `name`. None where it is another, or there
+/// is no word. No memory.
 pub(crate) fn words_behind<'a>(name: &str, words: &'a [String]) -> Option<&'a [String]>
     ensures some { IfSome result (λ others. map string_bytes words.entry.now ≡ name.now ∷ map string_bytes others.now) }
     ensures none { IfNone result ((others : List (List ℕ)) → map string_bytes words.entry.now ≢ name.now ∷ others) }
@@ -56,7 +94,8 @@ pub(crate) fn words_behind<'a>(name: &str, words: &'a [String]) -> Option<&'a [S
     }
 }
 
-/// What is found in the words behind the name of the command, where `clap` takes them.
+/// What `clap` finds in the words behind the name of the command. None where it does not take them: an
+/// option is unknown, say, or one is left out that has to stand.
 pub(crate) fn found_in<'a>(
     command: Command<'a>,
     words: &'a [String],
@@ -74,7 +113,7 @@ pub(crate) fn found_in<'a>(
     }
 }
 
-/// The text that was found for the option. No memory.
+/// The text that was found for the option `name`, or None where the option was left out. No memory.
 pub(crate) fn text_in<'a>(found: &ArgMatches<'a>, name: &str) -> Option<&'a str>
     ensures some { IfSome result (λ text. first_of name.now (rows_in found.now) ≡ Some text.now) }
     ensures none { IfNone result (first_of name.now (rows_in found.now) ≡ None) }
@@ -82,8 +121,8 @@ pub(crate) fn text_in<'a>(found: &ArgMatches<'a>, name: &str) -> Option<&'a str>
     found.get_str(name)
 }
 
-/// The number that was found for the option, from the least to the most, or the default where nothing was found. A
-/// number is 1 to 10 digits. No memory.
+/// The number that was found for the option `name`, or `default` where the option was left out. None where
+/// its text is not 1 to 10 digits, or the number is below `least` or above `most`. No memory.
 pub(crate) fn number_in(
     found: &ArgMatches<'_>,
     name: &str,
@@ -105,7 +144,8 @@ pub(crate) fn number_in(
     }
 }
 
-// The number that 1 to 10 digits spell.
+// The number that 1 to 10 digits spell, or None for any other text. A plus, which `parse` would take, is
+// refused.
 fn number_of(text: &str) -> Option<u64>
     ensures some { IfSome result (λ n. IsNumberText text.now n) }
     ensures none { IfNone result ((n : ℕ) → ¬ IsNumberText text.now n) }

@@ -1,10 +1,14 @@
+//! The words of the command `page`: from the command line to the names of its five files.
+//!
+//! In contracts a row is what `clap` found for one option. `GivesPage` says what the rows ask for, and
+//! `IsPage` what the words do.
 ghost use Rattle.std.specs.Prelude.{◌≡◌, IfOk, IfSome, IfNone, map, string_bytes};
 ghost use Rattle.clap.specs.Words.{app_of};
 ghost use Rattle.command_words.specs.Asked.{PageAsked, GivesPage, IsPage, page_command};
 ghost use Rattle.command_words.specs.inner.Found.{rows_in};
 
 use crate::edit_words::are_apart;
-use crate::options::{command_named, found_in, required, text_in, words_behind};
+use crate::options::{command_named, found_in, text_in, with_required, words_behind};
 use clap::{ArgMatches, Command};
 use foundation::OutOfMemory;
 use std::alloc::Global;
@@ -43,10 +47,10 @@ impl<'a> Model for PageWords<'a> {
     ghost invariant = { λ w. AreApart (w.rules.now ∷ w.records.now ∷ w.released.now ∷ w.reasons.now ∷ w.page.now ∷ []) };
 }
 
-/// Reads the words after the program's name as the command `page` with the options `--rules`, `--records`,
-/// `--released`, `--reasons` and `--page`, each with a file's name. The options stand as `clap` takes them, and no two
-/// of the five names lead to one file, as far as the names show it. What is asked for is all that the words can be read
-/// as, and there is None exactly where they are no such command.
+/// Reads the words after the program's name as the command `page`. The options `--rules`, `--records`,
+/// `--released`, `--reasons` and `--page` each have a file's name. The options stand as `clap` takes them,
+/// and no two of the five names lead to one file, as far as the names show it. The words are read in no
+/// other way, and None is answered exactly where they are no such command.
 pub fn page_asked<'a>(
     alloc: Global,
     words: &'a [String],
@@ -65,20 +69,19 @@ pub fn page_asked<'a>(
     Ok(page_of(&found))
 }
 
-// The command and its options.
+// The command `page`, as `clap` is told of it: five options, each of which has to stand.
 fn command<'a>(alloc: Global) -> Result<Command<'a>, OutOfMemory>
     ensures { IfOk result (λ command. app_of command ≡ page_command) }
 {
-    let command = command_named(alloc, "page")
-        .arg(required(alloc, "rules"))?
-        .arg(required(alloc, "records"))?
-        .arg(required(alloc, "released"))?
-        .arg(required(alloc, "reasons"))?
-        .arg(required(alloc, "page"))?;
-    Ok(command)
+    with_required(
+        alloc,
+        command_named(alloc, "page"),
+        &["rules", "records", "released", "reasons", "page"],
+    )
 }
 
-// What is asked for by what was found for the options.
+// What is asked for by what was found for the options. None where one of the five was left out, or two
+// names lead to one file.
 fn page_of<'a>(found: &ArgMatches<'a>) -> Option<PageWords<'a>>
     ensures some { IfSome result (GivesPage (rows_in found.now)) }
     ensures none { IfNone result ((asked : PageAsked) → ¬ GivesPage (rows_in found.now) asked) }

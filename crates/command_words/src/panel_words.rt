@@ -1,3 +1,8 @@
+//! The words of the command `panel`: from the command line to the names of its six files, its key and its
+//! budget.
+//!
+//! In contracts a row is what `clap` found for one option. `GivesPanel` says what the rows ask for, and
+//! `IsPanel` what the words do.
 ghost use Rattle.std.specs.Prelude.{◌≡◌, ◌↔◌, ◌∷◌, [], IfOk, IfSome, IfNone, IsTrue, map, string_bytes};
 ghost use Rattle.clap.specs.Words.{app_of};
 ghost use Rattle.command_words.specs.Asked.{PanelAsked, GivesPanel, IsPanel, panel_command};
@@ -6,16 +11,16 @@ ghost use Rattle.command_words.specs.inner.Found.{rows_in};
 
 use crate::file_names::{is_apart_from, lead_to_one};
 use crate::options::{
-    BUDGET, LEAST_BUDGET, MOST_BUDGET, command_named, found_in, number_in, optional, required,
-    text_in, words_behind,
+    BUDGET, LEAST_BUDGET, MOST_BUDGET, command_named, found_in, number_in, text_in, with_optional,
+    with_required, words_behind,
 };
 use clap::{ArgMatches, Command};
 use foundation::OutOfMemory;
 use std::alloc::Global;
 use std::marker::Model;
 
-/// What the command `panel` was asked for. No two names of files lead to one file; the column's name is not compared with
-/// them.
+/// What the command `panel` was asked for. No two names of files lead to one file; the column's name is not
+/// compared with them.
 #[derive(Debug, Drop)]
 pub struct PanelWords<'a> {
     /// The file of the rules.
@@ -60,11 +65,11 @@ impl<'a> Model for PanelWords<'a> {
         × (1 ≤ w.budget) × (w.budget ≤ most_work) };
 }
 
-/// Reads the words after the program's name as the command `panel` with the options `--rules`, `--records`, `--last`,
-/// `--released`, `--reasons` and `--proof`, each with a file's name, `--key`, with a column's name, and `--budget`, with a
-/// number of 1 to 10 digits, which may be left out: it is 1,000,000 then. The options stand as `clap` takes them, and no
-/// two of the six names of files lead to one file, as far as the names show it. What is asked for is all that the words
-/// can be read as, and there is None exactly where they are no such command.
+/// Reads the words after the program's name as the command `panel`. `--rules`, `--records`, `--last`,
+/// `--released`, `--reasons` and `--proof` each have a file's name; no two lead to one file, as far as the
+/// names show it. `--key` has a column's name. `--budget` has a number of 1 to 10 digits, or is left out:
+/// it is 1,000,000 then. The options stand as `clap` takes them. The words are read in no other way, and
+/// None is answered exactly where they are no such command.
 pub fn panel_asked<'a>(
     alloc: Global,
     words: &'a [String],
@@ -83,23 +88,22 @@ pub fn panel_asked<'a>(
     Ok(panel_of(&found))
 }
 
-// The command and its options.
+// The command `panel`, as `clap` is told of it: seven options that have to stand, and the budget.
 fn command<'a>(alloc: Global) -> Result<Command<'a>, OutOfMemory>
     ensures { IfOk result (λ command. app_of command ≡ panel_command) }
 {
-    let command = command_named(alloc, "panel")
-        .arg(required(alloc, "rules"))?
-        .arg(required(alloc, "records"))?
-        .arg(required(alloc, "last"))?
-        .arg(required(alloc, "released"))?
-        .arg(required(alloc, "reasons"))?
-        .arg(required(alloc, "proof"))?
-        .arg(required(alloc, "key"))?
-        .arg(optional(alloc, "budget"))?;
-    Ok(command)
+    let command = with_required(
+        alloc,
+        command_named(alloc, "panel"),
+        &[
+            "rules", "records", "last", "released", "reasons", "proof", "key",
+        ],
+    )?;
+    with_optional(alloc, command, &["budget"])
 }
 
-// What is asked for by what was found for the options.
+// What is asked for by what was found for the options. None where one of the seven was left out, the
+// budget is out of its bounds, or two names of files lead to one file.
 fn panel_of<'a>(found: &ArgMatches<'a>) -> Option<PanelWords<'a>>
     ensures some { IfSome result (GivesPanel (rows_in found.now)) }
     ensures none { IfNone result ((asked : PanelAsked) → ¬ GivesPanel (rows_in found.now) asked) }
@@ -127,7 +131,7 @@ fn panel_of<'a>(found: &ArgMatches<'a>) -> Option<PanelWords<'a>>
     })
 }
 
-// Whether no two of the names lead to one file.
+// Whether no two of the names lead to one file, as far as the names show.
 fn are_apart(
     rules: &str,
     records: &str,

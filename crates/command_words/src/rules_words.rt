@@ -1,9 +1,13 @@
+//! The words of the command `rules`: from the command line to the name of the file of rules.
+//!
+//! In contracts a row is what `clap` found for one option. `GivesRules` says what the rows ask for, and
+//! `IsRules` what the words do.
 ghost use Rattle.std.specs.Prelude.{◌≡◌, IfOk, IfSome, IfNone, map, string_bytes};
 ghost use Rattle.clap.specs.Words.{app_of};
 ghost use Rattle.command_words.specs.Asked.{GivesRules, IsRules, RulesAsked, rules_command};
 ghost use Rattle.command_words.specs.inner.Found.{rows_in};
 
-use crate::options::{command_named, found_in, required, text_in, words_behind};
+use crate::options::{command_named, found_in, text_in, with_required, words_behind};
 use clap::{ArgMatches, Command};
 use foundation::OutOfMemory;
 use std::alloc::Global;
@@ -24,9 +28,9 @@ impl<'a> Model for RulesWords<'a> {
     ghost view = { λ w. record { rules = w.rules.now } };
 }
 
-/// Reads the words after the program's name as the command `rules` with the option `--rules` and a file's name, which
-/// stand as `clap` takes them. What is asked for is all that the words can be read as, and there is None exactly where
-/// they are no such command.
+/// Reads the words after the program's name as the command `rules` with the option `--rules` and a file's
+/// name, which stand as `clap` takes them. The words are read in no other way, and None is answered exactly
+/// where they are no such command.
 pub fn rules_asked<'a>(
     alloc: Global,
     words: &'a [String],
@@ -45,15 +49,14 @@ pub fn rules_asked<'a>(
     Ok(rules_of(&found))
 }
 
-// The command and its option.
+// The command `rules`, as `clap` is told of it: one option, which has to stand.
 fn command<'a>(alloc: Global) -> Result<Command<'a>, OutOfMemory>
     ensures { IfOk result (λ command. app_of command ≡ rules_command) }
 {
-    let command = command_named(alloc, "rules").arg(required(alloc, "rules"))?;
-    Ok(command)
+    with_required(alloc, command_named(alloc, "rules"), &["rules"])
 }
 
-// What the command is asked for by what was found for its option.
+// What the command is asked for, by what was found for its option. None where that was left out.
 fn rules_of<'a>(found: &ArgMatches<'a>) -> Option<RulesWords<'a>>
     ensures some { IfSome result (GivesRules (rows_in found.now)) }
     ensures none { IfNone result ((asked : RulesAsked) → ¬ GivesRules (rows_in found.now) asked) }

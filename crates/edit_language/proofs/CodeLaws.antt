@@ -1,5 +1,6 @@
 -- Lists of codes: a code that stands twice, and the set of the codes that are listed.
-use Rattle.std.proofs.Common.{◌≡◌, ◌≢◌, ℕ, suc, ◌+◌, ◌*◌, ◌^◌, ◌<◌, ◌≤◌, Bool, true, false, if◌then◌else◌, All, AllPairs, List, [], ◌∷◌, ◌++◌, drop, take, get_or, length, refl, sym, ap, ◌∙◌, inl, inr, arith, add-one}
+use Rattle.std.proofs.Common.{◌≡◌, ◌≢◌, ℕ, suc, ◌+◌, ◌*◌, ◌^◌, ◌<◌, ◌≤◌, Bool, true, false, if◌then◌else◌, All, AllPairs, List, [], ◌∷◌, ◌++◌, drop, take}
+use Rattle.std.proofs.Common.{get_or, length, refl, sym, ap, ◌∙◌, inl, inr, arith, add-one}
 use Rattle.std.specs.Str.{bytes_eq}
 use Rattle.std.proofs.Math.Seq.{drop-cons}
 use Rattle.std.proofs.Math.Nat.{pow-le-pow_right}
@@ -34,26 +35,33 @@ pub double_there : (xs : List (List ℕ)) (x : List ℕ) (rest : List (List ℕ)
 double_there [] x rest there = absurd (there (All-nil (λ n. n ≢ x)))
 double_there (t ∷ ts) x rest there = elim (cases_Bool (bytes_eq x t)) [
   | inl same ↦ or_left _ _ (list_any-append (λ c. bytes_eq c t) ts (x ∷ rest) ∙ or_right _ _ (or_left _ _ same))
-  | inr differs ↦ or_right _ _ (double_there ts x rest (λ new. there (All-cons (λ n. n ≢ x) t ts (λ same. let found : bytes_eq x t ≡ true = (bytes_eq-Decides x t).1 (sym same) in cc) new)))
+  | inr differs ↦ or_right _ _ (double_there ts x rest
+      (λ new. there (All-cons (λ n. n ≢ x) t ts (λ same. let found : bytes_eq x t ≡ true = (bytes_eq-Decides x t).1 (sym same) in cc) new)))
 ]
 
 -- the codes up to a place, and the code there
-module _ (first : List ℕ) (rest : List (List ℕ)) (i : ℕ) (seen : List (List ℕ)) (code : List ℕ) (within : i < length rest) (are : seen ≡ first ∷ take i rest) (here : code ≡ get_or rest i code) where
+module _ (first : List ℕ) (rest : List (List ℕ)) (i : ℕ) (seen : List (List ℕ)) (code : List ℕ) (within : i < length rest) (are : seen ≡ first ∷ take i rest)
+    (here : code ≡ get_or rest i code) where
   whole : first ∷ rest ≡ seen ++ code ∷ drop (i + 1) rest
   whole =
       let left : drop i rest ≡ code ∷ drop (i + 1) rest = drop-cons rest i code within ∙ rw (← here, add-one) refl in
       let all : take i rest ++ drop i rest ≡ rest = take-append-drop i rest in
-      ap (λ (cs : List (List ℕ)). first ∷ cs) (sym all ∙ ap (λ (cs : List (List ℕ)). take i rest ++ cs) left) ∙ ap (λ (cs : List (List ℕ)). cs ++ code ∷ drop (i + 1) rest) (sym are)
+      ap (λ (cs : List (List ℕ)). first ∷ cs) (sym all ∙ ap (λ (cs : List (List ℕ)). take i rest ++ cs) left)
+      ∙ ap (λ (cs : List (List ℕ)). cs ++ code ∷ drop (i + 1) rest) (sym are)
 
   -- a code that is listed already makes a double
   pub double_at : ¬ All (λ n. n ≢ code) seen → true ≡ has_double (first ∷ rest)
   double_at there = sym (ap has_double whole ∙ double_there seen code (drop (i + 1) rest) there)
 
   -- a new code makes none
-  pub distinct_at : (next : List (List ℕ)) → has_double seen ≡ false → next ≡ seen ++ code ∷ [] → All (λ n. n ≢ code) seen → (next ≡ first ∷ take (i + 1) rest) × (has_double next ≡ false)
+  pub distinct_at : (next : List (List ℕ)) → has_double seen ≡ false → next ≡ seen ++ code ∷ [] → All (λ n. n ≢ code) seen
+      → (next ≡ first ∷ take (i + 1) rest) × (has_double next ≡ false)
   distinct_at next distinct is new =
-      let longer : take (i + 1) rest ≡ take i rest ++ code ∷ [] = take_more rest i code within ∙ rw (← here) refl in
-      (is ∙ ap (λ (cs : List (List ℕ)). cs ++ code ∷ []) are ∙ ap (λ (cs : List (List ℕ)). first ∷ cs) (sym longer), ap has_double is ∙ still_distinct seen code distinct new)
+      let longer : take (i + 1) rest ≡ take i rest ++ code ∷ [] = take_more rest i code within ∙ rw (← here) refl in (
+        is ∙ ap (λ (cs : List (List ℕ)). cs ++ code ∷ []) are ∙ ap (λ (cs : List (List ℕ)). first ∷ cs) (sym longer),
+        ap has_double is
+            ∙ still_distinct seen code distinct new,
+      )
 
 -- a list without a double has distinct codes
 pub distinct_codes : (xs : List (List ℕ)) → has_double xs ≡ false → AllPairs (λ a b. a ≢ b) xs
@@ -101,15 +109,18 @@ code_set_some (code ∷ codes) list first there listed = elim (or_cases (bytes_e
     more false n above = omega arith
 
 -- one code more
-pub code_set_more : (codes list : List (List ℕ)) (i : ℕ) (code : List ℕ) → i < length codes → 2 ^ i * code_set (drop i codes) list ≡ (if is_listed list (get_or codes i code) then 2 ^ i else 0) + 2 ^ (i + 1) * code_set (drop (i + 1) codes) list
-code_set_more codes list i code within = at_drop_more (λ cs. 2 ^ i * code_set cs list) codes i code within ∙ split (is_listed list (get_or codes i code)) (code_set (drop (i + 1) codes) list) i
+pub code_set_more : (codes list : List (List ℕ)) (i : ℕ) (code : List ℕ) → i < length codes
+    → 2 ^ i * code_set (drop i codes) list ≡ (if is_listed list (get_or codes i code) then 2 ^ i else 0) + 2 ^ (i + 1) * code_set (drop (i + 1) codes) list
+code_set_more codes list i code within = at_drop_more (λ cs. 2 ^ i * code_set cs list) codes i code within
+    ∙ split (is_listed list (get_or codes i code)) (code_set (drop (i + 1) codes) list) i
   where
     split : (b : Bool) (n i : ℕ) → 2 ^ i * ((if b then 1 else 0) + 2 * n) ≡ (if b then 2 ^ i else 0) + 2 ^ (i + 1) * n
     split true n i = let twice : 2 ^ (i + 1) ≡ 2 * 2 ^ i = rw add-one (omega arith) in rw twice (grind arith)
     split false n i = let twice : 2 ^ (i + 1) ≡ 2 * 2 ^ i = rw add-one (omega arith) in rw twice (grind arith)
 
 -- a set so far, and the code that comes next
-pub set_step : (codes list : List (List ℕ)) (i : ℕ) (code : List ℕ) (set bit : ℕ) → length codes ≤ 64 → i < length codes → set + 2 ^ i * code_set (drop i codes) list ≡ code_set codes list
+pub set_step : (codes list : List (List ℕ)) (i : ℕ) (code : List ℕ) (set bit : ℕ) → length codes ≤ 64 → i < length codes
+    → set + 2 ^ i * code_set (drop i codes) list ≡ code_set codes list
     → code ≡ get_or codes i code → bit ≡ (if is_listed list code then 2 ^ i else 0)
     → (set + bit < 2 ^ 64) × (set + bit + 2 ^ (i + 1) * code_set (drop (i + 1) codes) list ≡ code_set codes list)
 set_step codes list i code set bit few within so_far here is =
@@ -118,7 +129,8 @@ set_step codes list i code set bit few within so_far here is =
     let small = code_set_small codes list in
     let most : 2 ^ length codes ≤ 2 ^ 64 = pow-le-pow_right {n = 2} (omega arith) {i = length codes} {j = 64} few in
     let sum : 2 ^ i * code_set (drop i codes) list ≡ bit + 2 ^ (i + 1) * code_set (drop (i + 1) codes) list = rw listed more in
-    step set bit (2 ^ i * code_set (drop i codes) list) (2 ^ (i + 1) * code_set (drop (i + 1) codes) list) (code_set codes list) (2 ^ length codes) sum so_far small most
+    step set bit (2 ^ i * code_set (drop i codes) list) (2 ^ (i + 1) * code_set (drop (i + 1) codes) list) (code_set codes list)
+    (2 ^ length codes) sum so_far small most
   where
     step : (set bit old new whole top : ℕ) → old ≡ bit + new → set + old ≡ whole → whole < top → top ≤ 2 ^ 64 → (set + bit < 2 ^ 64) × (set + bit + new ≡ whole)
     step set bit old new whole top sum so_far small most = (omega arith, omega arith)

@@ -21,7 +21,8 @@ pub fails_at : {X : Type 0} (p : X → Bool) (xs : List X) (i : ℕ) (x : X) →
 fails_at p xs i x none within here = false_from_ne_true (p x) (λ yes. both_ways _ none (list_any_at p xs i x within (ap p (sym here) ∙ yes)))
 
 -- where the first of a list fail a test, the last decides
-pub last_decides : {X : Type 0} (p : X → Bool) (xs ys : List X) (y : X) (answer : Bool) → ys ≡ xs → list_any p ys ≡ false → answer ≡ p y → answer ≡ list_any p (xs ++ y ∷ [])
+pub last_decides : {X : Type 0} (p : X → Bool) (xs ys : List X) (y : X) (answer : Bool) → ys ≡ xs → list_any p ys ≡ false → answer ≡ p y
+    → answer ≡ list_any p (xs ++ y ∷ [])
 last_decides p xs ys y answer same none is =
     let fails : list_any p xs ≡ false = ap (list_any p) (sym same) ∙ none in
     sym (list_any-append p xs (y ∷ []) ∙ rw (fails, or-false) (sym is))

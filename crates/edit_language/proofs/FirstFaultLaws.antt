@@ -13,7 +13,8 @@ use Rattle.rule_grammar.specs.declared.statement.TestText.TheVariants as written
 use Rattle.edit_language.specs.Faults.{has_fault, has_unknown_code, is_known_test, kind_number}
 use Rattle.edit_language.specs.inner.FirstFault.{tests_of}
 use Rattle.edit_language.specs.declared.fault.RulesKind.{RulesKind}
-use Rattle.edit_language.specs.declared.fault.RulesKind.TheVariants.{BadByte, Syntax, UnknownField, DoubleField, UnknownCode, DoubleCode, NumberRange, TooMany, ConditionForm}
+use Rattle.edit_language.specs.declared.fault.RulesKind.TheVariants.{BadByte, Syntax, UnknownField, DoubleField, UnknownCode, DoubleCode, NumberRange, TooMany}
+use Rattle.edit_language.specs.declared.fault.RulesKind.TheVariants.{ConditionForm}
 use Rattle.edit_language.specs.inner.FirstFault.{IsLeastOf, fault_of, has_known_codes}
 
 -- ---- the first of kinds in order
@@ -50,7 +51,8 @@ module _ (p : RulesKind → Bool) where
     | inr fails ↦ found_passes kinds kind (later_first k kinds (Some kind) fails e)
   ]
 
-  found_least : (n : ℕ) (kinds : List RulesKind) (kind : RulesKind) → RiseFrom n kinds → find p kinds ≡ Some kind → (other : RulesKind) → IsOneOf other kinds → p other ≡ true → kind_number kind ≤ kind_number other
+  found_least : (n : ℕ) (kinds : List RulesKind) (kind : RulesKind) → RiseFrom n kinds → find p kinds ≡ Some kind → (other : RulesKind) → IsOneOf other kinds
+      → p other ≡ true → kind_number kind ≤ kind_number other
   unfolding IsOneOf RiseFrom
   found_least n [] kind rise e other one passes = absurd one
   found_least n (k ∷ kinds) kind rise e other (inl here) passes =
@@ -104,13 +106,15 @@ unknown_code : (fields : List Field) (t : TestText) → is_known_test fields t �
 unknown_code fields (written.Codes field negated list) known = rw known refl
 unknown_code fields (written.Sums left compare right) known = refl
 
-unknown_codes : (fields : List Field) (ts : List TestText) → list_all (is_known_test fields) ts ≡ true → list_any (has_unknown_code fields) ts ≡ not (list_all (has_known_codes fields) ts)
+unknown_codes : (fields : List Field) (ts : List TestText) → list_all (is_known_test fields) ts ≡ true
+    → list_any (has_unknown_code fields) ts ≡ not (list_all (has_known_codes fields) ts)
 unknown_codes fields [] known = refl
 unknown_codes fields (t ∷ ts) known =
     let both = and_parts _ _ known in
     rw (unknown_code fields t both.0, unknown_codes fields ts both.1) (not_both (has_known_codes fields t) (list_all (has_known_codes fields) ts))
 
-rule_finds : (before : SurveyParts) (r : RuleText) → (list_all (is_known_test before.fields) (tests_of r) ≡ true) ⊎ (list_all (is_known_test before.fields) (tests_of r) ≡ false) → fault_of before (statement.Rule r) ≡ find (has_fault before (statement.Rule r)) kinds
+rule_finds : (before : SurveyParts) (r : RuleText) → (list_all (is_known_test before.fields) (tests_of r) ≡ true)
+    ⊎ (list_all (is_known_test before.fields) (tests_of r) ≡ false) → fault_of before (statement.Rule r) ≡ find (has_fault before (statement.Rule r)) kinds
 rule_finds before r (inl known) = rw (known, unknown_codes before.fields (tests_of r) known) refl
 rule_finds before r (inr unknown) = rw unknown refl
 

@@ -1,5 +1,6 @@
 -- A rule text is read in one way, line after line, and its first fault is one.
-use Rattle.std.proofs.Common.{◌≡◌, ◌⊎◌, ℕ, ◌+◌, ◌-◌, ◌<◌, ◌≤◌, ◌==◌, true, false, if◌then◌else◌, List, [], ◌∷◌, ◌++◌, length, Option, Some, None, Result, Ok, Err, IfErr, refl, sym, ap, ◌∙◌, subst, inl, inr, arith, append_assoc, length-append}
+use Rattle.std.proofs.Common.{◌≡◌, ◌⊎◌, ℕ, ◌+◌, ◌-◌, ◌<◌, ◌≤◌, ◌==◌, true, false, if◌then◌else◌, List, [], ◌∷◌, ◌++◌, length, Option, Some, None, Result, Ok}
+use Rattle.std.proofs.Common.{Err, IfErr, refl, sym, ap, ◌∙◌, subst, inl, inr, arith, append_assoc, length-append}
 use Rattle.std.specs.List.{after_first, before_first, list_any, position_or_len, slice_split}
 use Rattle.std.proofs.lemmas.Bool.{both_ways}
 use Rattle.std.proofs.lemmas.List.{length-drop}
@@ -28,7 +29,8 @@ use Rattle.edit_language.specs.Reading.{IsFaultOf, IsNoRuleText, IsOnlyFaultOf}
 use Rattle.edit_language.specs.declared.fault.RulesFault.{RulesFault}
 use Rattle.edit_language.specs.declared.fault.RulesFault.TheVariants as faults
 use Rattle.edit_language.specs.declared.fault.RulesKind.{RulesKind}
-use Rattle.edit_language.specs.declared.fault.RulesKind.TheVariants.{BadByte, Syntax, UnknownField, DoubleField, UnknownCode, DoubleCode, NumberRange, TooMany, ConditionForm}
+use Rattle.edit_language.specs.declared.fault.RulesKind.TheVariants.{BadByte, Syntax, UnknownField, DoubleField, UnknownCode, DoubleCode, NumberRange, TooMany}
+use Rattle.edit_language.specs.declared.fault.RulesKind.TheVariants.{ConditionForm}
 use Rattle.edit_language.specs.inner.FirstFault.{IsLeastOf}
 use Rattle.edit_language.specs.inner.LineFaults.{IsFaultOfLine, IsFaultOfStatement}
 use Rattle.rule_grammar.proofs.StatementLaws.{one_statement}
@@ -67,7 +69,8 @@ says_some line s says empty = some_token s (sym says.tokens ∙ empty)
 
 -- a kind is known by its number
 kind_of : ℕ → RulesKind
-kind_of n = if n == 1 then BadByte else if n == 2 then Syntax else if n == 3 then UnknownField else if n == 4 then DoubleField else if n == 5 then UnknownCode else if n == 6 then DoubleCode else if n == 7 then NumberRange else if n == 8 then TooMany else ConditionForm
+kind_of n = if n == 1 then BadByte else if n == 2 then Syntax else if n == 3 then UnknownField else if n == 4 then DoubleField else if n == 5 then UnknownCode
+    else if n == 6 then DoubleCode else if n == 7 then NumberRange else if n == 8 then TooMany else ConditionForm
 
 numbered : (kind : RulesKind) → kind_of (kind_number kind) ≡ kind
 unfolding kind_of
@@ -82,7 +85,8 @@ numbered TooMany = refl
 numbered ConditionForm = refl
 
 -- the fault of a statement is one of its line
-pub fault_of_line : (line : List ℕ) (before : SurveyParts) (s : Written) (kind : RulesKind) → SaysStatement line s → has_fault before s kind ≡ true → HasFault line before kind
+pub fault_of_line : (line : List ℕ) (before : SurveyParts) (s : Written) (kind : RulesKind) → SaysStatement line s → has_fault before s kind ≡ true
+    → HasFault line before kind
 fault_of_line line before s BadByte says e = absurd cc
 fault_of_line line before s Syntax says e = absurd cc
 fault_of_line line before s UnknownField says e = (s, says, e)
@@ -95,7 +99,8 @@ fault_of_line line before s ConditionForm says e = (s, says, e)
 
 -- a fault is of one of three sorts
 IsSort : List ℕ → SurveyParts → RulesKind → Type 0
-IsSort line before kind = ((kind ≡ BadByte) × (has_bad_byte line ≡ true)) ⊎ (((kind ≡ Syntax) × SaysNothing line) ⊎ ((s : Written) × SaysStatement line s × (has_fault before s kind ≡ true)))
+IsSort line before kind = ((kind ≡ BadByte) × (has_bad_byte line ≡ true))
+    ⊎ (((kind ≡ Syntax) × SaysNothing line) ⊎ ((s : Written) × SaysStatement line s × (has_fault before s kind ≡ true)))
 
 sort_of : (line : List ℕ) (before : SurveyParts) (kind : RulesKind) → HasFault line before kind → IsSort line before kind
 unfolding IsSort
@@ -110,9 +115,13 @@ sort_of line before TooMany h = inr (inr h)
 sort_of line before ConditionForm h = inr (inr h)
 
 -- the least fault of a statement is that of its line
-pub least_of_line : (line : List ℕ) (before : SurveyParts) (s : Written) (kind : RulesKind) → SaysStatement line s → IsLeastOf before s kind → IsLeastFault line before kind
+pub least_of_line : (line : List ℕ) (before : SurveyParts) (s : Written) (kind : RulesKind) → SaysStatement line s → IsLeastOf before s kind
+    → IsLeastFault line before kind
 unfolding IsSort
-least_of_line line before s kind says is = record { has = fault_of_line line before s kind says is.has; least = λ other fault. by other (sort_of line before other fault) }
+least_of_line line before s kind says is = record {
+  has = fault_of_line line before s kind says is.has;
+  least = λ other fault. by other (sort_of line before other fault);
+}
   where
     by : (other : RulesKind) → IsSort line before other → kind_number kind ≤ kind_number other
     by other (inl a) = absurd (both_ways (has_bad_byte line) says.clean a.1)
@@ -151,7 +160,8 @@ pub adds_once : (line : List ℕ) (before a b : SurveyParts) → Adds line befor
 adds_once line before a b (inl first) (inl second) = first.1 ∙ sym second.1
 adds_once line before a b (inl first) (inr second) = absurd (says_some line second.statement second.says first.0.tokens)
 adds_once line before a b (inr first) (inl second) = absurd (says_some line first.statement first.says second.0.tokens)
-adds_once line before a b (inr first) (inr second) = first.grown ∙ ap (extended before) (says_once line first.statement second.statement first.says second.says) ∙ sym second.grown
+adds_once line before a b (inr first) (inr second) = first.grown ∙ ap (extended before) (says_once line first.statement second.statement first.says second.says)
+    ∙ sym second.grown
 
 -- ---- texts
 
@@ -172,28 +182,37 @@ pub rule_text_once : (bytes : List ℕ) (a b : SurveyParts) → IsRuleText bytes
 rule_text_once bytes a b first second = all_once (text_lines bytes) no_statements a b first second
 
 -- lines of which one has a fault add up to nothing
-fault_stops_all : (earlier : List (List ℕ)) (line : List ℕ) (later : List (List ℕ)) (before at after : SurveyParts) (kind : RulesKind) → AddsAll earlier before at → HasFault line at kind → AddsAll (earlier ++ line ∷ later) before after → ⊥
-fault_stops_all [] line later before at after kind read fault all = fault_stops line before all.0 kind (subst (λ (s : SurveyParts). HasFault line s kind) read fault) all.1
+fault_stops_all : (earlier : List (List ℕ)) (line : List ℕ) (later : List (List ℕ)) (before at after : SurveyParts) (kind : RulesKind)
+    → AddsAll earlier before at → HasFault line at kind → AddsAll (earlier ++ line ∷ later) before after → ⊥
+fault_stops_all [] line later before at after kind read fault all =
+    fault_stops line before all.0 kind (subst (λ (s : SurveyParts). HasFault line s kind) read fault) all.1
 fault_stops_all (first ∷ earlier) line later before at after kind read fault all =
     let next : all.0 ≡ read.0 = adds_once first before all.0 read.0 all.1 read.1 in
     fault_stops_all earlier line later read.0 at after kind read.2 fault (subst (λ (s : SurveyParts). AddsAll (earlier ++ line ∷ later) s after) next all.2)
 
 -- a text that has a fault is no rule text
 pub no_rule_text : (bytes : List ℕ) (number : ℕ) (kind : RulesKind) → IsRulesFault bytes number kind → (survey : SurveyParts) → ¬ IsRuleText bytes survey
-no_rule_text bytes number kind fault survey text = fault_stops_all fault.earlier fault.line fault.later no_statements fault.before survey kind fault.read fault.fault.has (subst (λ (lines : List (List ℕ)). AddsAll lines no_statements survey) fault.split text)
+no_rule_text bytes number kind fault survey text = fault_stops_all fault.earlier fault.line fault.later no_statements fault.before survey kind fault.read
+    fault.fault.has (subst (λ (lines : List (List ℕ)). AddsAll lines no_statements survey) fault.split text)
 
 -- the first fault of lines is one
-first_once : (e : List (List ℕ)) (m : List ℕ) (r : List (List ℕ)) (f : List (List ℕ)) (n : List ℕ) (q : List (List ℕ)) (before a b : SurveyParts) (k l : RulesKind) → e ++ m ∷ r ≡ f ++ n ∷ q
+first_once : (e : List (List ℕ)) (m : List ℕ) (r : List (List ℕ)) (f : List (List ℕ)) (n : List ℕ) (q : List (List ℕ)) (before a b : SurveyParts)
+    (k l : RulesKind) → e ++ m ∷ r ≡ f ++ n ∷ q
     → AddsAll e before a → IsLeastFault m a k → AddsAll f before b → IsLeastFault n b l → (length e ≡ length f) × (k ≡ l)
 first_once [] m r [] n q before a b k l same read fault also other =
-    let line : m ≡ n = cc in
-    (refl, faults_once n before k l (subst (λ (t : List ℕ). IsLeastFault t before k) line (subst (λ (s : SurveyParts). IsLeastFault m s k) read fault)) (subst (λ (s : SurveyParts). IsLeastFault n s l) also other))
+    let line : m ≡ n = cc in (
+      refl,
+      faults_once n before k l (subst (λ (t : List ℕ). IsLeastFault t before k) line (subst (λ (s : SurveyParts). IsLeastFault m s k) read fault))
+          (subst (λ (s : SurveyParts). IsLeastFault n s l) also other),
+    )
 first_once [] m r (g ∷ f) n q before a b k l same read fault also other =
     let line : m ≡ g = cc in
-    absurd (fault_stops g before also.0 k (subst (λ (t : List ℕ). HasFault t before k) line (subst (λ (s : SurveyParts). HasFault m s k) read fault.has)) also.1)
+    absurd (fault_stops g before also.0 k (subst (λ (t : List ℕ). HasFault t before k) line
+    (subst (λ (s : SurveyParts). HasFault m s k) read fault.has)) also.1)
 first_once (d ∷ e) m r [] n q before a b k l same read fault also other =
     let line : n ≡ d = cc in
-    absurd (fault_stops d before read.0 l (subst (λ (t : List ℕ). HasFault t before l) line (subst (λ (s : SurveyParts). HasFault n s l) also other.has)) read.1)
+    absurd (fault_stops d before read.0 l (subst (λ (t : List ℕ). HasFault t before l) line
+    (subst (λ (s : SurveyParts). HasFault n s l) also other.has)) read.1)
 first_once (d ∷ e) m r (g ∷ f) n q before a b k l same read fault also other =
     let line : d ≡ g = cc in
     let rest : e ++ m ∷ r ≡ f ++ n ∷ q = cc in
@@ -204,7 +223,8 @@ first_once (d ∷ e) m r (g ∷ f) n q before a b k l same read fault also other
 -- a text has one first fault
 pub rules_fault_once : (bytes : List ℕ) (m n : ℕ) (k l : RulesKind) → IsRulesFault bytes m k → IsRulesFault bytes n l → (m ≡ n) × (k ≡ l)
 rules_fault_once bytes m n k l first second =
-    let both = first_once first.earlier first.line first.later second.earlier second.line second.later no_statements first.before second.before k l (sym first.split ∙ second.split) first.read first.fault second.read second.fault in
+    let both = first_once first.earlier first.line first.later second.earlier second.line second.later no_statements first.before second.before k l
+    (sym first.split ∙ second.split) first.read first.fault second.read second.fault in
     (first.counted ∙ ap (λ (n : ℕ). n + 1) both.0 ∙ sym second.counted, both.1)
 
 -- ---- reading line after line
@@ -218,22 +238,30 @@ pub record IsReadTo (bytes rest : List ℕ) (number : ℕ) (draft : SurveyParts)
   pub within : number + length rest ≤ length bytes
 
 -- one line more
-pub read_more : (bytes rest : List ℕ) (number : ℕ) (draft next : SurveyParts) (line after : List ℕ) → IsReadTo bytes rest number draft → line ≡ before_first (λ b. b == 10) rest → after ≡ after_first (λ b. b == 10) rest → position_or_len (λ b. b == 10) rest < length rest → Adds line draft next → IsReadTo bytes after (number + 1) next
+pub read_more : (bytes rest : List ℕ) (number : ℕ) (draft next : SurveyParts) (line after : List ℕ) → IsReadTo bytes rest number draft
+    → line ≡ before_first (λ b. b == 10) rest → after ≡ after_first (λ b. b == 10) rest → position_or_len (λ b. b == 10) rest < length rest
+    → Adds line draft next → IsReadTo bytes after (number + 1) next
 read_more bytes rest number draft next line after so_far is_line is_after ended adds =
-    let cut : slice_split (λ b. b == 10) rest ≡ line ∷ slice_split (λ b. b == 10) after = slice_split_first (λ b. b == 10) rest 0 ended ∙ rw (is_line, is_after) refl in
+    let cut : slice_split (λ b. b == 10) rest ≡ line ∷ slice_split (λ b. b == 10) after = slice_split_first (λ b. b == 10) rest 0 ended
+    ∙ rw (is_line, is_after) refl in
     record {
       earlier = so_far.earlier ++ line ∷ [];
-      split = so_far.split ∙ ap (λ (lines : List (List ℕ)). so_far.earlier ++ lines) cut ∙ sym (append_assoc so_far.earlier (line ∷ []) (slice_split (λ b. b == 10) after));
+      split = so_far.split ∙ ap (λ (lines : List (List ℕ)). so_far.earlier ++ lines) cut
+          ∙ sym (append_assoc so_far.earlier (line ∷ []) (slice_split (λ b. b == 10) after));
       counted = length-append so_far.earlier (line ∷ []) ∙ ap (λ (n : ℕ). n + 1) so_far.counted;
       read = adds_more so_far.earlier line no_statements draft next so_far.read adds;
-      within = let left : length after ≡ length rest - (position_or_len (λ b. b == 10) rest + 1) = ap (λ (bs : List ℕ). length bs) is_after ∙ length-drop (position_or_len (λ b. b == 10) rest + 1) rest in
+      within = let left : length after ≡ length rest - (position_or_len (λ b. b == 10) rest + 1) = ap (λ (bs : List ℕ). length bs) is_after
+          ∙ length-drop (position_or_len (λ b. b == 10) rest + 1) rest in
           let bound = so_far.within in omega arith;
     }
 
 -- the fault of the line that comes next
-pub fault_at : (bytes rest : List ℕ) (number : ℕ) (draft : SurveyParts) (line after : List ℕ) (kind : RulesKind) → IsReadTo bytes rest number draft → line ≡ before_first (λ b. b == 10) rest → after ≡ after_first (λ b. b == 10) rest → position_or_len (λ b. b == 10) rest < length rest → IsLeastFault line draft kind → IsRulesFault bytes (number + 1) kind
+pub fault_at : (bytes rest : List ℕ) (number : ℕ) (draft : SurveyParts) (line after : List ℕ) (kind : RulesKind) → IsReadTo bytes rest number draft
+    → line ≡ before_first (λ b. b == 10) rest → after ≡ after_first (λ b. b == 10) rest → position_or_len (λ b. b == 10) rest < length rest
+    → IsLeastFault line draft kind → IsRulesFault bytes (number + 1) kind
 fault_at bytes rest number draft line after kind so_far is_line is_after ended fault =
-    let cut : slice_split (λ b. b == 10) rest ≡ line ∷ slice_split (λ b. b == 10) after = slice_split_first (λ b. b == 10) rest 0 ended ∙ rw (is_line, is_after) refl in
+    let cut : slice_split (λ b. b == 10) rest ≡ line ∷ slice_split (λ b. b == 10) after = slice_split_first (λ b. b == 10) rest 0 ended
+    ∙ rw (is_line, is_after) refl in
     record {
       earlier = so_far.earlier;
       line = line;
@@ -250,7 +278,8 @@ last_line : (rest : List ℕ) → position_or_len (λ b. b == 10) rest ≡ lengt
 last_line rest none = slice_split_none (λ b. b == 10) rest (λ k d below. fails_before_first (λ b. b == 10) rest k d (omega arith))
 
 -- its fault
-pub fault_at_last : (bytes rest : List ℕ) (number : ℕ) (draft : SurveyParts) (kind : RulesKind) → IsReadTo bytes rest number draft → position_or_len (λ b. b == 10) rest ≡ length rest → IsLeastFault rest draft kind → IsRulesFault bytes (number + 1) kind
+pub fault_at_last : (bytes rest : List ℕ) (number : ℕ) (draft : SurveyParts) (kind : RulesKind) → IsReadTo bytes rest number draft
+    → position_or_len (λ b. b == 10) rest ≡ length rest → IsLeastFault rest draft kind → IsRulesFault bytes (number + 1) kind
 fault_at_last bytes rest number draft kind so_far none fault =
     record {
       earlier = so_far.earlier;
@@ -264,7 +293,8 @@ fault_at_last bytes rest number draft kind so_far none fault =
     }
 
 -- all lines are read
-pub read_all : (bytes rest : List ℕ) (number : ℕ) (draft survey : SurveyParts) → IsReadTo bytes rest number draft → position_or_len (λ b. b == 10) rest ≡ length rest → Adds rest draft survey → IsRuleText bytes survey
+pub read_all : (bytes rest : List ℕ) (number : ℕ) (draft survey : SurveyParts) → IsReadTo bytes rest number draft
+    → position_or_len (λ b. b == 10) rest ≡ length rest → Adds rest draft survey → IsRuleText bytes survey
 read_all bytes rest number draft survey so_far none adds =
     let lines : text_lines bytes ≡ so_far.earlier ++ rest ∷ [] = so_far.split ∙ ap (λ (lines : List (List ℕ)). so_far.earlier ++ lines) (last_line rest none) in
     subst (λ (ls : List (List ℕ)). AddsAll ls no_statements survey) (sym lines) (adds_more so_far.earlier rest no_statements draft survey so_far.read adds)
@@ -272,21 +302,25 @@ read_all bytes rest number draft survey so_far none adds =
 -- ---- what an answer says
 
 -- the fault of a statement, told of its line
-pub told_of_line : (line : List ℕ) (before : SurveyParts) (number : ℕ) (s : Written) (fault : RulesFault) → SaysStatement line s → IsFaultOfStatement s before number fault → IsFaultOfLine line before number fault
+pub told_of_line : (line : List ℕ) (before : SurveyParts) (number : ℕ) (s : Written) (fault : RulesFault) → SaysStatement line s
+    → IsFaultOfStatement s before number fault → IsFaultOfLine line before number fault
 told_of_line line before number s (faults.At at kind) says told = (told.0, least_of_line line before s kind says told.1)
 told_of_line line before number s faults.OutOfMemory says told = tt
 
 -- an answer that tells the fault of the statement tells that of its line
-pub told_by_line : {A : Type 0} (line : List ℕ) (before : SurveyParts) (number : ℕ) (s : Written) (answer : Result A RulesFault) → SaysStatement line s → IfErr answer (λ fault. IsFaultOfStatement s before number fault) → IfErr answer (λ fault. IsFaultOfLine line before number fault)
+pub told_by_line : {A : Type 0} (line : List ℕ) (before : SurveyParts) (number : ℕ) (s : Written) (answer : Result A RulesFault) → SaysStatement line s
+    → IfErr answer (λ fault. IsFaultOfStatement s before number fault) → IfErr answer (λ fault. IsFaultOfLine line before number fault)
 told_by_line line before number s (Ok x) says told = tt
 told_by_line line before number s (Err fault) says told = told_of_line line before number s fault says told
 
 -- an answer that hands on a fault
-pub handed_on : {A : Type 0} (answer : Result A RulesFault) (P : RulesFault → Type 0) (told fault : RulesFault) → answer ≡ Err told → told ≡ fault → P fault → IfErr answer P
+pub handed_on : {A : Type 0} (answer : Result A RulesFault) (P : RulesFault → Type 0) (told fault : RulesFault) → answer ≡ Err told → told ≡ fault → P fault
+    → IfErr answer P
 handed_on answer P told fault is same holds = rw (is, same) holds
 
 -- what the reader of a line found is what the line says
-pub says_of : (line text : List ℕ) (found : LineText) (s : Written) → text ≡ read_part line → list_any is_bad_byte text ≡ false → found ≡ line_text.Says s → IsLineText text found → SaysStatement line s
+pub says_of : (line text : List ℕ) (found : LineText) (s : Written) → text ≡ read_part line → list_any is_bad_byte text ≡ false → found ≡ line_text.Says s
+    → IsLineText text found → SaysStatement line s
 says_of line text found s part clean is read =
     let says : IsLineText text (line_text.Says s) = subst (λ (l : LineText). IsLineText text l) is read in
     record { clean = ap (list_any is_bad_byte) (sym part) ∙ clean; tokens = ap tokens_of (sym part) ∙ says.0 }
@@ -300,15 +334,22 @@ unfolding IsAnswer
 answer_of bytes number kind fault = (fault, (λ n k also. rules_fault_once bytes n number k kind also fault), no_rule_text bytes number kind fault)
 
 -- the fault of the line that comes next, told of the text
-pub told_next : (bytes rest : List ℕ) (number : ℕ) (draft : SurveyParts) (line after : List ℕ) (fault : RulesFault) → IsReadTo bytes rest number draft → line ≡ before_first (λ b. b == 10) rest → after ≡ after_first (λ b. b == 10) rest → position_or_len (λ b. b == 10) rest < length rest → IsFaultOfLine line draft (number + 1) fault
+pub told_next : (bytes rest : List ℕ) (number : ℕ) (draft : SurveyParts) (line after : List ℕ) (fault : RulesFault) → IsReadTo bytes rest number draft
+    → line ≡ before_first (λ b. b == 10) rest → after ≡ after_first (λ b. b == 10) rest → position_or_len (λ b. b == 10) rest < length rest
+    → IsFaultOfLine line draft (number + 1) fault
     → IsFaultOf bytes fault × IsOnlyFaultOf bytes fault × IsNoRuleText bytes fault
 unfolding IsAnswer
-told_next bytes rest number draft line after (faults.At at kind) so_far is_line is_after ended told = subst (λ (n : ℕ). IsAnswer bytes (faults.At n kind)) (sym told.0) (answer_of bytes (number + 1) kind (fault_at bytes rest number draft line after kind so_far is_line is_after ended told.1))
+told_next bytes rest number draft line after (faults.At at kind) so_far is_line is_after ended told =
+    subst (λ (n : ℕ). IsAnswer bytes (faults.At n kind)) (sym told.0)
+    (answer_of bytes (number + 1) kind (fault_at bytes rest number draft line after kind so_far is_line is_after ended told.1))
 told_next bytes rest number draft line after faults.OutOfMemory so_far is_line is_after ended told = (tt, tt, tt)
 
 -- the fault of the last line
-pub told_last : (bytes rest : List ℕ) (number : ℕ) (draft : SurveyParts) (fault : RulesFault) → IsReadTo bytes rest number draft → position_or_len (λ b. b == 10) rest ≡ length rest → IsFaultOfLine rest draft (number + 1) fault
+pub told_last : (bytes rest : List ℕ) (number : ℕ) (draft : SurveyParts) (fault : RulesFault) → IsReadTo bytes rest number draft
+    → position_or_len (λ b. b == 10) rest ≡ length rest → IsFaultOfLine rest draft (number + 1) fault
     → IsFaultOf bytes fault × IsOnlyFaultOf bytes fault × IsNoRuleText bytes fault
 unfolding IsAnswer
-told_last bytes rest number draft (faults.At at kind) so_far none told = subst (λ (n : ℕ). IsAnswer bytes (faults.At n kind)) (sym told.0) (answer_of bytes (number + 1) kind (fault_at_last bytes rest number draft kind so_far none told.1))
+told_last bytes rest number draft (faults.At at kind) so_far none told =
+    subst (λ (n : ℕ). IsAnswer bytes (faults.At n kind)) (sym told.0)
+    (answer_of bytes (number + 1) kind (fault_at_last bytes rest number draft kind so_far none told.1))
 told_last bytes rest number draft faults.OutOfMemory so_far none told = (tt, tt, tt)

@@ -1,5 +1,6 @@
 -- The first byte of a kind in a line, and the carriage return at its end.
-use Rattle.std.proofs.Common.{◌≡◌, ℕ, suc, ◌+◌, ◌-◌, ◌<◌, ◌≤◌, ◌==◌, Bool, true, false, nat_lt, not, ◌&&◌, if◌then◌else◌, List, [], ◌∷◌, ◌++◌, length, take, drop, position, Some, None, refl, sym, ap, ◌∙◌, inl, inr, arith}
+use Rattle.std.proofs.Common.{◌≡◌, ℕ, suc, ◌+◌, ◌-◌, ◌<◌, ◌≤◌, ◌==◌, Bool, true, false, nat_lt, not, ◌&&◌, if◌then◌else◌, List, [], ◌∷◌, ◌++◌, length, take}
+use Rattle.std.proofs.Common.{drop, position, Some, None, refl, sym, ap, ◌∙◌, inl, inr, arith}
 use Rattle.std.specs.List.{after_first, before_first, position_or_len}
 use Rattle.std.specs.Str.{bytes_eq}
 use Rattle.std.proofs.lemmas.Bool.{cases_lt, cond-true, cond-false, le-ltb, lt-ltb}
@@ -9,13 +10,16 @@ use Rattle.std.proofs.lemmas.Slice.Eq.{bytes_eq-Decides}
 use Rattle.edit_language.specs.Lines.{without_return}
 
 -- where a byte is found, it is the first
-pub place_is : (p : ℕ → Bool) (text : List ℕ) (place : ℕ) → position p text ≡ Some place → (position_or_len p text ≡ place) × (position_or_len p text < length text)
+pub place_is : (p : ℕ → Bool) (text : List ℕ) (place : ℕ) → position p text ≡ Some place
+    → (position_or_len p text ≡ place) × (position_or_len p text < length text)
 place_is p text place found = elim (cases_lt (position_or_len p text) (length text)) [
   | inl within ↦
-      let some : Some (position_or_len p text) ≡ Some place = sym (cond-true (nat_lt (position_or_len p text) (length text)) (Some (position_or_len p text)) None (lt-ltb _ _ within)) ∙ found in
+      let some : Some (position_or_len p text) ≡ Some place =
+      sym (cond-true (nat_lt (position_or_len p text) (length text)) (Some (position_or_len p text)) None (lt-ltb _ _ within)) ∙ found in
       (cc, within)
   | inr past ↦
-      let none : None ≡ Some place = sym (cond-false (nat_lt (position_or_len p text) (length text)) (Some (position_or_len p text)) None (le-ltb _ _ past)) ∙ found in
+      let none : None ≡ Some place = sym (cond-false (nat_lt (position_or_len p text) (length text)) (Some (position_or_len p text)) None (le-ltb _ _ past))
+      ∙ found in
       absurd cc
 ]
 
@@ -23,7 +27,8 @@ place_is p text place found = elim (cases_lt (position_or_len p text) (length te
 pub place_is_none : (p : ℕ → Bool) (text : List ℕ) → position p text ≡ None → position_or_len p text ≡ length text
 place_is_none p text missing = elim (cases_lt (position_or_len p text) (length text)) [
   | inl within ↦
-      let some : Some (position_or_len p text) ≡ None = sym (cond-true (nat_lt (position_or_len p text) (length text)) (Some (position_or_len p text)) None (lt-ltb _ _ within)) ∙ missing in
+      let some : Some (position_or_len p text) ≡ None = sym
+      (cond-true (nat_lt (position_or_len p text) (length text)) (Some (position_or_len p text)) None (lt-ltb _ _ within)) ∙ missing in
       absurd cc
   | inr past ↦ let most : position_or_len p text ≤ length text = prefix_len-le-length (λ b. not (p b)) text in omega arith
 ]
@@ -32,7 +37,8 @@ place_is_none p text missing = elim (cases_lt (position_or_len p text) (length t
 pub before_at : (p : ℕ → Bool) (text : List ℕ) (place : ℕ) → position p text ≡ Some place → take place text ≡ before_first p text
 before_at p text place found = ap (λ (n : ℕ). take n text) (sym (place_is p text place found).0)
 
-pub after_at : (p : ℕ → Bool) (text : List ℕ) (place : ℕ) → position p text ≡ Some place → take (length text - (place + 1)) (drop (place + 1) text) ≡ after_first p text
+pub after_at : (p : ℕ → Bool) (text : List ℕ) (place : ℕ) → position p text ≡ Some place
+    → take (length text - (place + 1)) (drop (place + 1) text) ≡ after_first p text
 after_at p text place found =
     let size : length (drop (place + 1) text) ≡ length text - (place + 1) = length-drop (place + 1) text in
     take_all (length text - (place + 1)) (drop (place + 1) text) (omega arith) ∙ ap (λ (n : ℕ). drop (n + 1) text) (sym (place_is p text place found).0)
@@ -51,7 +57,8 @@ return_dropped (b ∷ c ∷ bs) = ap (λ (cs : List ℕ). b ∷ cs) (return_drop
 pub return_cut : (line : List ℕ) → bytes_eq (drop (length line - 1) line) (13 ∷ []) ≡ true → take (length line - 1) line ≡ without_return line
 return_cut line ends =
     let last : drop (length line - 1) line ≡ 13 ∷ [] = (bytes_eq-Decides _ _).0 ends in
-    let whole : line ≡ take (length line - 1) line ++ 13 ∷ [] = sym (take-append-drop (length line - 1) line) ∙ ap (λ (cs : List ℕ). take (length line - 1) line ++ cs) last in
+    let whole : line ≡ take (length line - 1) line ++ 13 ∷ [] = sym (take-append-drop (length line - 1) line)
+    ∙ ap (λ (cs : List ℕ). take (length line - 1) line ++ cs) last in
     sym (ap without_return whole ∙ return_dropped (take (length line - 1) line))
 
 -- it does not

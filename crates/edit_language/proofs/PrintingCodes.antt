@@ -1,5 +1,6 @@
 -- A printed list of codes stands for the set that it was printed from.
-use Rattle.std.proofs.Common.{◌≡◌, ◌∙◌, refl, sym, ap, ℕ, zero, suc, ◌*◌, ◌/◌, ◌%◌, ◌<◌, ◌≤◌, ◌^◌, Bool, true, false, eqb, List, [], ◌∷◌, length, inl, inr, arith}
+use Rattle.std.proofs.Common.{◌≡◌, ◌∙◌, refl, sym, ap, ℕ, zero, suc, ◌*◌, ◌/◌, ◌%◌, ◌<◌, ◌≤◌, ◌^◌, Bool, true, false, eqb, List, [], ◌∷◌, length, inl, inr}
+use Rattle.std.proofs.Common.{arith}
 use Rattle.std.proofs.Math.Nat.{pow-suc}
 use Rattle.std.proofs.lemmas.Bool.{and_from, and_parts, cases_Bool, cond_both, eqb-false, eqb-true, or_left, or_right}
 use Rattle.std.proofs.lemmas.Nat.Bits.{bit_at-lt, bit_at-suc, bit_at_lowest}
@@ -59,7 +60,8 @@ abbrev pub IsListedBy : ℕ → ℕ → List (List ℕ) → List (List ℕ) → 
 IsListedBy set i [] list = ⊤
 IsListedBy set i (c ∷ codes) list = (is_listed list c ≡ eqb (bit_at set i) 1) × IsListedBy set (suc i) codes list
 
-listed_more : (set i : ℕ) (codes : List (List ℕ)) (c : List ℕ) (list : List (List ℕ)) → AreOther c codes → IsListedBy set i codes list → IsListedBy set i codes (c ∷ list)
+listed_more : (set i : ℕ) (codes : List (List ℕ)) (c : List ℕ) (list : List (List ℕ)) → AreOther c codes → IsListedBy set i codes list
+    → IsListedBy set i codes (c ∷ list)
 listed_more set i [] c list other listed = tt
 listed_more set i (d ∷ codes) c list other listed =
     let same : is_listed (c ∷ list) d ≡ is_listed list d = rw (other.0) refl in (same ∙ listed.0, listed_more set (suc i) codes c list other.2 listed.1)

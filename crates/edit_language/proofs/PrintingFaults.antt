@@ -37,7 +37,8 @@ none_first (t ∷ tests) all = rw all.0 (none_first tests all.1)
 none_of_three : (a b c : Bool) (k l m : RulesKind) → a ≡ false → b ≡ false → c ≡ false → first_true ((a, k) ∷ (b, l) ∷ (c, m) ∷ []) ≡ None
 none_of_three a b c k l m a_no b_no c_no = none_first ((a, k) ∷ (b, l) ∷ (c, m) ∷ []) (a_no, (b_no, (c_no, tt)))
 
-none_of_more : (a b c : Bool) (k l m : RulesKind) (tests : List (Bool × RulesKind)) → a ≡ false → b ≡ false → c ≡ false → first_true tests ≡ None → first_true ((a, k) ∷ (b, l) ∷ (c, m) ∷ tests) ≡ None
+none_of_more : (a b c : Bool) (k l m : RulesKind) (tests : List (Bool × RulesKind)) → a ≡ false → b ≡ false → c ≡ false → first_true tests ≡ None
+    → first_true ((a, k) ∷ (b, l) ∷ (c, m) ∷ tests) ≡ None
 none_of_more a b c k l m tests a_no b_no c_no rest = rw (a_no, b_no, c_no) rest
 
 -- ---- declarations
@@ -49,16 +50,21 @@ IsNew done name = list_any (λ (f : Field). bytes_eq f.name name) done ≡ false
 outside : (limit n : ℕ) → (1 ≤ n) × (n ≤ limit) → (nat_lt n 1 || nat_lt limit n) ≡ false
 outside limit n is = or_from _ _ (le-ltb n 1 is.0) (le-ltb limit n is.1)
 
-declared_faultless : (done : SurveyParts) (name : List ℕ) (weight : ℕ) (k : Kind) → (1 ≤ weight) × (weight ≤ 1000) → IsKind k → IsNew done.fields name → length done.fields < 64
+declared_faultless : (done : SurveyParts) (name : List ℕ) (weight : ℕ) (k : Kind) → (1 ≤ weight) × (weight ≤ 1000) → IsKind k → IsNew done.fields name
+    → length done.fields < 64
     → declaration_fault done (declaration_of name weight k) ≡ None
 declared_faultless done name weight (kind.Number scale) small fits new few =
-    none_of_three _ _ _ DoubleField NumberRange TooMany new (or_from _ _ (outside 1000 weight small) (outside (10 ^ 12) scale fits)) (lt-leb 64 (length done.fields) few)
+    none_of_three _ _ _ DoubleField NumberRange TooMany new (or_from _ _ (outside 1000 weight small) (outside (10 ^ 12) scale fits))
+    (lt-leb 64 (length done.fields) few)
 declared_faultless done name weight (kind.Code []) small fits new few = absurd (omega (arith, fits.0))
 declared_faultless done name weight (kind.Code (code ∷ list)) small fits new few =
-    let last : (nat_le 64 (length done.fields) || nat_lt 64 (length (code ∷ list))) ≡ false = or_from _ _ (lt-leb 64 (length done.fields) few) (le-ltb 64 (length (code ∷ list)) fits.1) in
-    none_of_more _ _ _ DoubleField DoubleCode NumberRange ((nat_le 64 (length done.fields) || nat_lt 64 (length (code ∷ list)), TooMany) ∷ []) new (no_double (code ∷ list) (apart_from_pairs (code ∷ list) fits.3)) (outside 1000 weight small) (rw last refl)
+    let last : (nat_le 64 (length done.fields) || nat_lt 64 (length (code ∷ list))) ≡ false =
+    or_from _ _ (lt-leb 64 (length done.fields) few) (le-ltb 64 (length (code ∷ list)) fits.1) in
+    none_of_more _ _ _ DoubleField DoubleCode NumberRange ((nat_le 64 (length done.fields) || nat_lt 64 (length (code ∷ list)), TooMany) ∷ []) new
+    (no_double (code ∷ list) (apart_from_pairs (code ∷ list) fits.3)) (outside 1000 weight small) (rw last refl)
 
-pub field_faultless : (done : SurveyParts) (f : Field) → IsField f → IsNew done.fields f.name → length done.fields < 64 → fault_of done (statement_of_field f) ≡ None
+pub field_faultless : (done : SurveyParts) (f : Field) → IsField f → IsNew done.fields f.name → length done.fields < 64
+    → fault_of done (statement_of_field f) ≡ None
 field_faultless done f is new few = declared_faultless done f.name f.weight f.kind is.weight is.fits new few
 
 declared_back : (name : List ℕ) (weight : ℕ) (k : Kind) → IsKind k → field_of (declaration_of name weight k) ≡ record { name = name; weight = weight; kind = k }
@@ -66,17 +72,20 @@ declared_back name weight (kind.Number scale) fits = refl
 declared_back name weight (kind.Code []) fits = absurd (omega (arith, fits.0))
 declared_back name weight (kind.Code (code ∷ list)) fits = refl
 
-pub field_added : (done : SurveyParts) (f : Field) → IsField f → extended done (statement_of_field f) ≡ record { fields = done.fields ++ f ∷ []; rules = done.rules }
+pub field_added : (done : SurveyParts) (f : Field) → IsField f
+    → extended done (statement_of_field f) ≡ record { fields = done.fields ++ f ∷ []; rules = done.rules }
 field_added done f is = ap (λ (g : Field). record { fields = done.fields ++ g ∷ []; rules = done.rules }) (declared_back f.name f.weight f.kind is.fits)
 
 -- ---- rules
 
-tests_all : (P : TestText → Type 0) (fields : List Field) (conditions : List Test) (conclusion : Test) → AllByRecursion (λ (t : Test). P (written_test fields t)) conditions → P (written_test fields conclusion)
+tests_all : (P : TestText → Type 0) (fields : List Field) (conditions : List Test) (conclusion : Test)
+    → AllByRecursion (λ (t : Test). P (written_test fields t)) conditions → P (written_test fields conclusion)
     → AllByRecursion P (map (written_test fields) conditions ++ written_test fields conclusion ∷ [])
 tests_all P fields [] conclusion all last = (last, tt)
 tests_all P fields (t ∷ tests) conclusion all last = (all.0, tests_all P fields tests conclusion all.1 last)
 
-same_tests : (fields : List Field) (tests : List Test) → AllByRecursion (IsReadBack fields) tests → map (test_of fields) (map (written_test fields) tests) ≡ tests
+same_tests : (fields : List Field) (tests : List Test) → AllByRecursion (IsReadBack fields) tests
+    → map (test_of fields) (map (written_test fields) tests) ≡ tests
 same_tests fields [] all = refl
 same_tests fields (t ∷ tests) all = rw (all.0.same, same_tests fields tests all.1) refl
 
@@ -109,7 +118,8 @@ form_back fields r form =
       | inr one ↦
           let (t, is, order, code) = one in
           subst (λ (tests : List Test). form_of fields tests r.conclusion ≡ true) (sym is)
-          (or_right _ _ (and_from _ _ refl (and_from _ _ (not_from_false _ (or_from _ _ (no_equation fields t order) refl)) (not_from_false _ (no_sums fields r.conclusion code)))))
+          (or_right _ _ (and_from _ _ refl (and_from _ _ (not_from_false _ (or_from _ _ (no_equation fields t order) refl))
+          (not_from_false _ (no_sums fields r.conclusion code)))))
     ]
 
 -- a rule that reads as it was
@@ -118,14 +128,20 @@ pub record IsRuleBack (done : SurveyParts) (r : Rule) : Type 0 where
   pub faultless : fault_of done (statement_of_rule done.fields r) ≡ None
   pub added : extended done (statement_of_rule done.fields r) ≡ record { fields = done.fields; rules = done.rules ++ r ∷ [] }
 
-pub rule_back : (done : SurveyParts) (r : Rule) → All IsField done.fields → AllPairs (λ (f : Field) (g : Field). f.name ≢ g.name) done.fields → IsRule done.fields r → length done.rules < 500 → IsRuleBack done r
+pub rule_back : (done : SurveyParts) (r : Rule) → All IsField done.fields → AllPairs (λ (f : Field) (g : Field). f.name ≢ g.name) done.fields
+    → IsRule done.fields r → length done.rules < 500 → IsRuleBack done r
 rule_back done r all distinct is few =
     let fields = done.fields in
-    let conditions = all_mapped (IsTest fields) (IsReadBack fields) (test_back fields all distinct) r.conditions (recursion_from_All (IsTest fields) r.conditions is.conditions) in
+    let conditions = all_mapped (IsTest fields) (IsReadBack fields) (test_back fields all distinct) r.conditions
+    (recursion_from_All (IsTest fields) r.conditions is.conditions) in
     let conclusion = test_back fields all distinct r.conclusion is.conclusion in
-    let every = λ (P : TestText → Type 0) (f : (t : Test) → IsReadBack fields t → P (written_test fields t)). tests_all P fields r.conditions r.conclusion (all_mapped (IsReadBack fields) (λ t. P (written_test fields t)) f r.conditions conditions) (f r.conclusion conclusion) in
+    let every = λ (P : TestText → Type 0) (f : (t : Test) → IsReadBack fields t → P (written_test fields t)). tests_all P fields r.conditions r.conclusion
+    (all_mapped (IsReadBack fields) (λ t. P (written_test fields t)) f r.conditions conditions) (f r.conclusion conclusion) in
     record {
-      printable = record { conditions = all_mapped (IsReadBack fields) (IsPrintableTest fields) (λ t back. back.printable) r.conditions conditions; conclusion = conclusion.printable };
+      printable = record {
+        conditions = all_mapped (IsReadBack fields) (IsPrintableTest fields) (λ t back. back.printable) r.conditions conditions;
+        conclusion = conclusion.printable;
+      };
       faultless = none_of_more _ _ _ UnknownField UnknownCode DoubleCode (
           (list_any (is_large_test fields) (tests_of (written_rule fields r)), NumberRange)
           ∷ (nat_le 500 (length done.rules), TooMany)
@@ -140,5 +156,6 @@ rule_back done r all distinct is few =
       added = ap (λ (q : Rule). record { fields = fields; rules = done.rules ++ q ∷ [] }) (rule_same conditions conclusion.same);
     }
   where
-    rule_same : AllByRecursion (IsReadBack done.fields) r.conditions → test_of done.fields (written_test done.fields r.conclusion) ≡ r.conclusion → rule_of done.fields (written_rule done.fields r) ≡ r
+    rule_same : AllByRecursion (IsReadBack done.fields) r.conditions → test_of done.fields (written_test done.fields r.conclusion) ≡ r.conclusion
+        → rule_of done.fields (written_rule done.fields r) ≡ r
     rule_same all last = rw (same_tests done.fields r.conditions all, last) refl

@@ -31,12 +31,14 @@ pub record IsFound (fields : List Field) (i : ℕ) (f : Field) : Type 0 where
   pub number : number_named fields f.name ≡ Some i
   pub field : field_named fields f.name ≡ Some f
 
-pub found : (fields : List Field) (i : ℕ) (f : Field) → AllPairs (λ (f : Field) (g : Field). f.name ≢ g.name) fields → slice_get fields i ≡ Some f → IsFound fields i f
+pub found : (fields : List Field) (i : ℕ) (f : Field) → AllPairs (λ (f : Field) (g : Field). f.name ≢ g.name) fields → slice_get fields i ≡ Some f
+    → IsFound fields i f
 found fields i f distinct is =
     let here = slice_get_within fields i f is in
     let same : get_or fields i f ≡ f = get_or_from_slice_get fields i f f is in
     let named = λ (g : Field). bytes_eq g.name f.name in
-    let place : position_or_len named fields ≡ i = subst (λ (g : Field). position_or_len (λ (h : Field). bytes_eq h.name g.name) fields ≡ i) same (place_is fields i f distinct here) in
+    let place : position_or_len named fields ≡ i = subst (λ (g : Field). position_or_len (λ (h : Field). bytes_eq h.name g.name) fields ≡ i) same
+    (place_is fields i f distinct here) in
     record {
       name = rw is refl;
       number = rw (place, lt-ltb i (length fields) here) refl;

@@ -19,7 +19,8 @@ use Rattle.rule_grammar.specs.declared.token.Keyword.{Keyword}
 use Rattle.rule_grammar.specs.declared.token.Numeral.TheVariants as numeral
 use Rattle.rule_grammar.specs.declared.token.Token.{Token}
 use Rattle.rule_grammar.specs.declared.token.Token.TheVariants as token
-use Rattle.rule_grammar.proofs.TokenSteps.{keyword_text, tokens_from_blank, tokens_from_code, tokens_from_front, tokens_from_keyword, tokens_from_name, tokens_from_numeral}
+use Rattle.rule_grammar.proofs.TokenSteps.{keyword_text, tokens_from_blank, tokens_from_code, tokens_from_front, tokens_from_keyword, tokens_from_name}
+use Rattle.rule_grammar.proofs.TokenSteps.{tokens_from_numeral}
 
 -- ---- what a text is
 
@@ -59,25 +60,30 @@ plain-append a b pa pb = list_all-append is_plain a b ∙ and_from _ _ pa pb
 pub spells_then : {from mid to : Bool} {a b : List ℕ} {s u : List Token} → Spells from mid a s → Leads b → Spells mid to b u → Spells from to (a ++ b) (s ++ u)
 spells_then {from} {mid} {to} {a} {b} {s} {u} first leads second = record {
   plain = plain-append a b first.plain second.plain;
-  read = λ rest stop. ap (tokens_from from) (append_assoc a b rest) ∙ first.read (b ++ rest) (leads.stops rest stop) ∙ ap (λ (ts : List Token). s ++ ts) (second.read rest stop) ∙ sym (append_assoc s u (tokens_from to rest));
+  read = λ rest stop. ap (tokens_from from) (append_assoc a b rest) ∙ first.read (b ++ rest) (leads.stops rest stop)
+      ∙ ap (λ (ts : List Token). s ++ ts) (second.read rest stop) ∙ sym (append_assoc s u (tokens_from to rest));
 }
 
-pub spells_opens : {from mid to : Bool} {a b : List ℕ} {s u : List Token} → Spells from mid a s → ((rest : List ℕ) → Stops (b ++ rest)) → Opens mid to b u → Opens from to (a ++ b) (s ++ u)
+pub spells_opens : {from mid to : Bool} {a b : List ℕ} {s u : List Token} → Spells from mid a s → ((rest : List ℕ) → Stops (b ++ rest)) → Opens mid to b u
+    → Opens from to (a ++ b) (s ++ u)
 spells_opens {from} {mid} {to} {a} {b} {s} {u} first stops second = record {
   plain = plain-append a b first.plain second.plain;
-  read = λ rest. ap (tokens_from from) (append_assoc a b rest) ∙ first.read (b ++ rest) (stops rest) ∙ ap (λ (ts : List Token). s ++ ts) (second.read rest) ∙ sym (append_assoc s u (tokens_from to rest));
+  read = λ rest. ap (tokens_from from) (append_assoc a b rest) ∙ first.read (b ++ rest) (stops rest) ∙ ap (λ (ts : List Token). s ++ ts) (second.read rest)
+      ∙ sym (append_assoc s u (tokens_from to rest));
 }
 
 pub opens_then : {from mid to : Bool} {a b : List ℕ} {s u : List Token} → Opens from mid a s → Spells mid to b u → Spells from to (a ++ b) (s ++ u)
 opens_then {from} {mid} {to} {a} {b} {s} {u} first second = record {
   plain = plain-append a b first.plain second.plain;
-  read = λ rest stop. ap (tokens_from from) (append_assoc a b rest) ∙ first.read (b ++ rest) ∙ ap (λ (ts : List Token). s ++ ts) (second.read rest stop) ∙ sym (append_assoc s u (tokens_from to rest));
+  read = λ rest stop. ap (tokens_from from) (append_assoc a b rest) ∙ first.read (b ++ rest) ∙ ap (λ (ts : List Token). s ++ ts) (second.read rest stop)
+      ∙ sym (append_assoc s u (tokens_from to rest));
 }
 
 pub opens_both : {from mid to : Bool} {a b : List ℕ} {s u : List Token} → Opens from mid a s → Opens mid to b u → Opens from to (a ++ b) (s ++ u)
 opens_both {from} {mid} {to} {a} {b} {s} {u} first second = record {
   plain = plain-append a b first.plain second.plain;
-  read = λ rest. ap (tokens_from from) (append_assoc a b rest) ∙ first.read (b ++ rest) ∙ ap (λ (ts : List Token). s ++ ts) (second.read rest) ∙ sym (append_assoc s u (tokens_from to rest));
+  read = λ rest. ap (tokens_from from) (append_assoc a b rest) ∙ first.read (b ++ rest) ∙ ap (λ (ts : List Token). s ++ ts) (second.read rest)
+      ∙ sym (append_assoc s u (tokens_from to rest));
 }
 
 pub spells_from : {from to : Bool} {text : List ℕ} {tokens : List Token} → Opens from to text tokens → Spells from to text tokens
@@ -117,7 +123,8 @@ keyword_plain = each_keyword (λ (k : Keyword). IsPlain (keyword_text k)) refl r
 pub keyword_opens : (k : Keyword) → Opens false false (keyword_text k ++ 32 ∷ []) (token.Keyword k ∷ [])
 keyword_opens k = record {
   plain = plain-append (keyword_text k) (32 ∷ []) (keyword_plain k) refl;
-  read = λ rest. ap (tokens_from false) (append_assoc (keyword_text k) (32 ∷ []) rest) ∙ tokens_from_keyword k (32 ∷ rest) refl ∙ ap (λ (ts : List Token). token.Keyword k ∷ ts) (tokens_from_blank false 32 rest refl);
+  read = λ rest. ap (tokens_from false) (append_assoc (keyword_text k) (32 ∷ []) rest) ∙ tokens_from_keyword k (32 ∷ rest) refl
+      ∙ ap (λ (ts : List Token). token.Keyword k ∷ ts) (tokens_from_blank false 32 rest refl);
 }
 
 -- a keyword between blanks
@@ -126,7 +133,8 @@ keyword_between k = opens_both (blank_opens false) (keyword_opens k)
 
 -- ---- marks
 
-pub mark_opens : (from : Bool) (b : ℕ) (t : Token) → IsPlain (b ∷ []) → ((rest : List ℕ) → tokens_from from (b ∷ rest) ≡ t ∷ tokens_from (is_inside_after from t) rest) → Opens from (is_inside_after from t) (b ∷ []) (t ∷ [])
+pub mark_opens : (from : Bool) (b : ℕ) (t : Token) → IsPlain (b ∷ [])
+    → ((rest : List ℕ) → tokens_from from (b ∷ rest) ≡ t ∷ tokens_from (is_inside_after from t) rest) → Opens from (is_inside_after from t) (b ∷ []) (t ∷ [])
 mark_opens from b t plain step = record { plain = plain; read = step }
 
 pub open_opens : Opens false true (codes "{") (token.Open ∷ [])
@@ -166,13 +174,17 @@ digit_is_plain b h = grind (arith, nat_tests)
 name_plain : (name : List ℕ) → has_name_form name ≡ true → IsPlain name
 name_plain [] h = refl
 name_plain (b ∷ bs) h =
-    let parts = and_parts (is_letter b) (list_all is_word_byte bs) h in and_from _ _ (letter_is_plain b parts.0) (all_weaker is_word_byte is_plain word_byte_is_plain bs parts.1)
+    let parts = and_parts (is_letter b) (list_all is_word_byte bs) h in
+    and_from _ _ (letter_is_plain b parts.0) (all_weaker is_word_byte is_plain word_byte_is_plain bs parts.1)
 
 pub name_spells : (name : List ℕ) → IsName name → Spells false false name (token.Name name ∷ [])
 name_spells name is = record { plain = name_plain name is.form; read = λ rest stop. tokens_from_name name rest is stop.word }
 
 pub code_spells : (code : List ℕ) → IsCodeText code → Spells true true code (token.Code code ∷ [])
-code_spells code is = record { plain = all_weaker is_code_byte is_plain code_byte_is_plain code is.0; read = λ rest stop. tokens_from_code code rest is stop.code }
+code_spells code is = record {
+  plain = all_weaker is_code_byte is_plain code_byte_is_plain code is.0;
+  read = λ rest stop. tokens_from_code code rest is stop.code;
+}
 
 digits_are_digits : (text : List ℕ) → AllDigits 10 text → list_all is_digit text ≡ true
 digits_are_digits [] h = refl
@@ -187,5 +199,6 @@ number_spells n small =
     let whole : whole_numeral (decimal n) ≡ numeral.Whole n = rw (is.1, le-leb n (10 ^ 15) small) refl in
     record {
       plain = all_weaker is_digit is_plain digit_is_plain (decimal n) digits;
-      read = λ rest stop. tokens_from_numeral (decimal n) rest (decimal_nonempty n (omega arith)) digits stop.digit stop.point ∙ ap (λ (m : _). token.Numeral m ∷ tokens_from false rest) whole;
+      read = λ rest stop. tokens_from_numeral (decimal n) rest (decimal_nonempty n (omega arith)) digits stop.digit stop.point
+          ∙ ap (λ (m : _). token.Numeral m ∷ tokens_from false rest) whole;
     }

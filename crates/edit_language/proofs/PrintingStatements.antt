@@ -78,7 +78,8 @@ zero_sum = record { sign = None; first = term.Constant (numeral.Whole 0); rest =
 
 abbrev pub written_test : List Field → Test → TestText
 written_test fields (test.Number l) = written.Sums (sum_of fields l.terms l.constant) l.compare zero_sum
-written_test fields (test.Codes field negated set) = written.Codes (name_at fields field) negated (code_list (codes_of_set set 0 (field_codes (slice_get fields field))))
+written_test fields (test.Codes field negated set) =
+    written.Codes (name_at fields field) negated (code_list (codes_of_set set 0 (field_codes (slice_get fields field))))
 
 abbrev pub written_rule : List Field → Rule → RuleText
 written_rule fields r = record { conditions = map (written_test fields) r.conditions; conclusion = written_test fields r.conclusion }

@@ -37,7 +37,8 @@ abbrev pub comma_before : Bool → List ℕ
 comma_before first = cond first [] (codes ", ")
 
 -- one text more at the end of a list
-pub comma_list-push : (texts : List (List ℕ)) (text : List ℕ) → comma_list (texts ++ text ∷ []) ≡ comma_list texts ++ (comma_before (eqb (length texts) 0) ++ text)
+pub comma_list-push : (texts : List (List ℕ)) (text : List ℕ)
+    → comma_list (texts ++ text ∷ []) ≡ comma_list texts ++ (comma_before (eqb (length texts) 0) ++ text)
 comma_list-push [] text = append-nil text
 comma_list-push (first ∷ rest) text =
     let later = λ (t : List ℕ). codes ", " ++ t in
@@ -45,7 +46,8 @@ comma_list-push (first ∷ rest) text =
     rw (some, flat_map-append later rest (text ∷ []), append-nil (codes ", " ++ text)) (sym (append_assoc first (flat_map later rest) (codes ", " ++ text)))
 
 -- the codes of a set among one code more
-pub codes_of_set-push : (set i : ℕ) (list : List (List ℕ)) (code : List ℕ) → codes_of_set set i (list ++ code ∷ []) ≡ codes_of_set set i list ++ cond (eqb (bit_at set (i + length list)) 1) (code ∷ []) []
+pub codes_of_set-push : (set i : ℕ) (list : List (List ℕ)) (code : List ℕ)
+    → codes_of_set set i (list ++ code ∷ []) ≡ codes_of_set set i list ++ cond (eqb (bit_at set (i + length list)) 1) (code ∷ []) []
 codes_of_set-push set i [] code = rw add-zero refl
   where
     add-zero : i + 0 ≡ i
@@ -65,7 +67,9 @@ pub list_more : (before : List ℕ) (list : List (List ℕ)) (i : ℕ) (code now
 list_more before list i code now next below is e f =
     let taken : take (i + 1) list ≡ take i list ++ code ∷ [] = take_more list i code below ∙ ap (λ (c : List ℕ). take i list ++ c ∷ []) (sym is) in
     let size : length (take i list) ≡ i = omega (arith, length-take i list) in
-    rw (taken, comma_list-push (take i list) code, size, f, e) (append_assoc (before ++ 123 ∷ comma_list (take i list)) (comma_before (eqb i 0)) code ∙ append_assoc before (123 ∷ comma_list (take i list)) (comma_before (eqb i 0) ++ code))
+    rw (taken, comma_list-push (take i list) code, size, f, e)
+    (append_assoc (before ++ 123 ∷ comma_list (take i list)) (comma_before (eqb i 0)) code
+    ∙ append_assoc before (123 ∷ comma_list (take i list)) (comma_before (eqb i 0) ++ code))
 
 -- the codes of a set among the first codes and one more
 set_more : (list : List (List ℕ)) (set i : ℕ) (code : List ℕ) → i < length list → code ≡ get_or list i code
@@ -75,19 +79,24 @@ set_more list set i code below is =
     let size : 0 + length (take i list) ≡ i = omega (arith, length-take i list) in
     rw (taken, codes_of_set-push set 0 (take i list) code, size) refl
 
-pub set_more_in : (before : List ℕ) (list : List (List ℕ)) (set i : ℕ) (code now next : List ℕ) (first : Bool) → i < length list → code ≡ get_or list i code → eqb (bit_at set i) 1 ≡ true
-    → now ≡ before ++ 123 ∷ comma_list (codes_of_set set 0 (take i list)) → first ≡ eqb (length (codes_of_set set 0 (take i list))) 0 → next ≡ now ++ comma_before first ++ code
+pub set_more_in : (before : List ℕ) (list : List (List ℕ)) (set i : ℕ) (code now next : List ℕ) (first : Bool) → i < length list → code ≡ get_or list i code
+    → eqb (bit_at set i) 1 ≡ true
+    → now ≡ before ++ 123 ∷ comma_list (codes_of_set set 0 (take i list)) → first ≡ eqb (length (codes_of_set set 0 (take i list))) 0
+    → next ≡ now ++ comma_before first ++ code
     → (next ≡ before ++ 123 ∷ comma_list (codes_of_set set 0 (take (i + 1) list))) × (false ≡ eqb (length (codes_of_set set 0 (take (i + 1) list))) 0)
 set_more_in before list set i code now next first below is bit e same f =
     let had = codes_of_set set 0 (take i list) in
     let has : codes_of_set set 0 (take (i + 1) list) ≡ had ++ code ∷ [] = set_more list set i code below is ∙ rw bit refl in
     let some : eqb (length (had ++ code ∷ [])) 0 ≡ false = ne_eqb _ _ (λ none. omega (arith, length-append had (code ∷ []))) in (
-      rw (has, comma_list-push had code, f, e, same) (append_assoc (before ++ 123 ∷ comma_list had) (comma_before (eqb (length had) 0)) code ∙ append_assoc before (123 ∷ comma_list had) (comma_before (eqb (length had) 0) ++ code)),
+      rw (has, comma_list-push had code, f, e, same) (append_assoc (before ++ 123 ∷ comma_list had) (comma_before (eqb (length had) 0)) code
+          ∙ append_assoc before (123 ∷ comma_list had) (comma_before (eqb (length had) 0) ++ code)),
       rw (has, some) refl,
     )
 
-pub set_more_out : (before : List ℕ) (list : List (List ℕ)) (set i : ℕ) (code now : List ℕ) (first : Bool) → i < length list → code ≡ get_or list i code → eqb (bit_at set i) 1 ≡ false
+pub set_more_out : (before : List ℕ) (list : List (List ℕ)) (set i : ℕ) (code now : List ℕ) (first : Bool) → i < length list → code ≡ get_or list i code
+    → eqb (bit_at set i) 1 ≡ false
     → now ≡ before ++ 123 ∷ comma_list (codes_of_set set 0 (take i list)) → first ≡ eqb (length (codes_of_set set 0 (take i list))) 0
     → (now ≡ before ++ 123 ∷ comma_list (codes_of_set set 0 (take (i + 1) list))) × (first ≡ eqb (length (codes_of_set set 0 (take (i + 1) list))) 0)
 set_more_out before list set i code now first below is bit e same =
-    let has : codes_of_set set 0 (take (i + 1) list) ≡ codes_of_set set 0 (take i list) = set_more list set i code below is ∙ rw bit (append-nil _) in (rw has e, rw has same)
+    let has : codes_of_set set 0 (take (i + 1) list) ≡ codes_of_set set 0 (take i list) = set_more list set i code below is
+    ∙ rw bit (append-nil _) in (rw has e, rw has same)

@@ -1,5 +1,6 @@
 -- A well-formed survey stays one with a statement that has no fault.
-use Rattle.std.proofs.Common.{◌≡◌, ◌≢◌, ◌⊎◌, ℕ, zero, suc, ◌^◌, ◌<◌, ◌≤◌, ◌||◌, ◌&&◌, ◌==◌, not, Bool, true, false, if◌then◌else◌, All, List, [], ◌∷◌, ◌++◌, length, map, Option, Some, None, IsSomeAnd, slice_get, nat_le, refl, sym, ◌∙◌, inl, inr, arith, length-append}
+use Rattle.std.proofs.Common.{◌≡◌, ◌≢◌, ◌⊎◌, ℕ, zero, suc, ◌^◌, ◌<◌, ◌≤◌, ◌||◌, ◌&&◌, ◌==◌, not, Bool, true, false, if◌then◌else◌, All, List, [], ◌∷◌, ◌++◌}
+use Rattle.std.proofs.Common.{length, map, Option, Some, None, IsSomeAnd, slice_get, nat_le, refl, sym, ◌∙◌, inl, inr, arith, length-append}
 use Rattle.std.specs.List.{list_all, list_any}
 use Rattle.std.specs.Str.{bytes_eq}
 use Rattle.std.proofs.lemmas.Bool.{and_parts, both_ways, cases_Bool, eqb-true, leb-false, ltb-false, not-false, not-true, or_cases, or_parts}
@@ -53,19 +54,32 @@ new_name (f ∷ fields) name none =
 
 -- ---- a field more
 
-some_grows : (P : Field → Type 0) (fields more : List Field) (number : ℕ) → IsSomeAnd (slice_get fields number) P → IsSomeAnd (slice_get (fields ++ more) number) P
+some_grows : (P : Field → Type 0) (fields more : List Field) (number : ℕ) → IsSomeAnd (slice_get fields number) P
+    → IsSomeAnd (slice_get (fields ++ more) number) P
 some_grows P [] more number h = absurd h
 some_grows P (f ∷ fields) more zero h = h
 some_grows P (f ∷ fields) more (suc number) h = some_grows P fields more number h
 
 test_grows : (fields more : List Field) (test : Test) → IsTest fields test → IsTest (fields ++ more) test
-test_grows fields more (made.Number l) h = (h.0, All-weaker (IsTerm fields) (IsTerm (fields ++ more)) (λ t fits. record { numerical = some_grows (λ f. IsNumber f.kind) fields more t.field fits.numerical; factor = fits.factor }) l.terms h.1, h.2)
+test_grows fields more (made.Number l) h = (
+  h.0,
+  All-weaker (IsTerm fields) (IsTerm (fields ++ more))
+      (λ t fits. record { numerical = some_grows (λ f. IsNumber f.kind) fields more t.field fits.numerical; factor = fits.factor }) l.terms h.1,
+  h.2,
+)
 test_grows fields more (made.Codes field negated set) h = some_grows _ fields more field h
 
 rule_grows : (fields more : List Field) (rule : Rule) → IsRule fields rule → IsRule (fields ++ more) rule
-rule_grows fields more rule h = record { conditions = All-weaker (IsTest fields) (IsTest (fields ++ more)) (test_grows fields more) rule.conditions h.conditions; conclusion = test_grows fields more rule.conclusion h.conclusion; form = h.form }
+rule_grows fields more rule h = record {
+  conditions =
+      All-weaker (IsTest fields) (IsTest (fields ++ more)) (test_grows fields more) rule.conditions h.conditions;
+  conclusion = test_grows fields more rule.conclusion h.conclusion;
+  form = h.form;
+}
 
-field_kept : (survey : SurveyParts) (field : Field) → IsWellFormed survey → IsField field → list_any (λ (f : Field). bytes_eq f.name field.name) survey.fields ≡ false → nat_le 64 (length survey.fields) ≡ false → IsWellFormed (record { fields = survey.fields ++ field ∷ []; rules = survey.rules })
+field_kept : (survey : SurveyParts) (field : Field) → IsWellFormed survey → IsField field
+    → list_any (λ (f : Field). bytes_eq f.name field.name) survey.fields ≡ false → nat_le 64 (length survey.fields) ≡ false
+    → IsWellFormed (record { fields = survey.fields ++ field ∷ []; rules = survey.rules })
 field_kept survey field formed is_field new few =
     let below : length survey.fields < 64 = leb-false _ _ few in
     record {
@@ -94,7 +108,8 @@ order_test fields (written.Sums left Le right) sums none = λ same. cc
 order_test fields (written.Sums left Lt right) sums none = λ same. cc
 order_test fields (written.Sums left Eq right) sums none = absurd cc
 
-form_of : (fields : List Field) (conditions : List TestText) (conclusion : TestText) → (list_any is_sums conditions ≡ true) ⊎ (list_any is_sums conditions ≡ false)
+form_of : (fields : List Field) (conditions : List TestText) (conclusion : TestText)
+    → (list_any is_sums conditions ≡ true) ⊎ (list_any is_sums conditions ≡ false)
     → (not (list_any is_sums conditions) || ((length conditions == 1) && (not (list_any is_equation conditions) && not (is_sums conclusion)))) ≡ true
     → HasForm (record { conditions = map (test_of fields) conditions; conclusion = test_of fields conclusion })
 form_of fields conditions conclusion (inr none) form = inl (code_tests fields conditions none)
@@ -107,7 +122,8 @@ form_of fields (t ∷ []) conclusion (inl some) form =
     inr (test_of fields t, refl, order_test fields t sums equation, code_test fields conclusion (not-true (is_sums conclusion) ordered.1))
 form_of fields (t ∷ u ∷ ts) conclusion (inl some) form =
     let all : ((length (t ∷ u ∷ ts) == 1) && (not (list_any is_equation (t ∷ u ∷ ts)) && not (is_sums conclusion))) ≡ true = rw some at form in
-    let one : length (t ∷ u ∷ ts) ≡ 1 = eqb-true (length (t ∷ u ∷ ts)) 1 (and_parts (length (t ∷ u ∷ ts) == 1) (not (list_any is_equation (t ∷ u ∷ ts)) && not (is_sums conclusion)) all).0 in
+    let one : length (t ∷ u ∷ ts) ≡ 1 = eqb-true (length (t ∷ u ∷ ts)) 1
+    (and_parts (length (t ∷ u ∷ ts) == 1) (not (list_any is_equation (t ∷ u ∷ ts)) && not (is_sums conclusion)) all).0 in
     absurd (omega arith)
 
 -- the last of a list, and those before it
@@ -121,7 +137,8 @@ none_of_list p xs y none =
     let both = or_parts _ _ (sym (list_any-append p xs (y ∷ [])) ∙ none) in
     (both.0, (or_parts _ _ both.1).0)
 
-tests_fit : (fields : List Field) → HaveDistinctNames fields → (ts : List TestText) → list_all (is_known_test fields) ts ≡ true → list_all (has_known_codes fields) ts ≡ true → list_any (is_large_test fields) ts ≡ false → All (IsTest fields) (map (test_of fields) ts)
+tests_fit : (fields : List Field) → HaveDistinctNames fields → (ts : List TestText) → list_all (is_known_test fields) ts ≡ true
+    → list_all (has_known_codes fields) ts ≡ true → list_any (is_large_test fields) ts ≡ false → All (IsTest fields) (map (test_of fields) ts)
 tests_fit fields distinct [] known codes small = All-nil (IsTest fields)
 tests_fit fields distinct (t ∷ ts) known codes small =
     let k = and_parts _ _ known in
@@ -129,8 +146,10 @@ tests_fit fields distinct (t ∷ ts) known codes small =
     let s = or_parts _ _ small in
     All-cons (IsTest fields) _ _ (test_fits fields distinct t k.0 c.0 s.0) (tests_fit fields distinct ts k.1 c.1 s.1)
 
-rule_kept : (survey : SurveyParts) (r : RuleText) → IsWellFormed survey → list_all (is_known_test survey.fields) (tests_of r) ≡ true → list_all (has_known_codes survey.fields) (tests_of r) ≡ true → list_any (is_large_test survey.fields) (tests_of r) ≡ false
-    → nat_le 500 (length survey.rules) ≡ false → has_rule_form r ≡ true → IsWellFormed (record { fields = survey.fields; rules = survey.rules ++ rule_of survey.fields r ∷ [] })
+rule_kept : (survey : SurveyParts) (r : RuleText) → IsWellFormed survey → list_all (is_known_test survey.fields) (tests_of r) ≡ true
+    → list_all (has_known_codes survey.fields) (tests_of r) ≡ true → list_any (is_large_test survey.fields) (tests_of r) ≡ false
+    → nat_le 500 (length survey.rules) ≡ false → has_rule_form r ≡ true
+    → IsWellFormed (record { fields = survey.fields; rules = survey.rules ++ rule_of survey.fields r ∷ [] })
 rule_kept survey r formed known codes small few form =
     let below : length survey.rules < 500 = leb-false _ _ few in
     let k = all_of_list (is_known_test survey.fields) r.conditions r.conclusion known in
@@ -151,13 +170,19 @@ rule_kept survey r formed known codes small few form =
 -- ---- a statement more
 
 -- the survey of the lines before, with a statement that has no fault
-pub extended_well_formed : (before : SurveyParts) (s : Written) → IsWellFormed before → GivesNames s → fault_of before s ≡ None → IsWellFormed (extended before s)
+pub extended_well_formed : (before : SurveyParts) (s : Written) → IsWellFormed before → GivesNames s → fault_of before s ≡ None
+    → IsWellFormed (extended before s)
 extended_well_formed before (statement.Declaration (declaration.Number name weight scale)) formed names faultless =
     let new = not_this _ _ _ faultless in
     let range = not_this _ _ _ new.1 in
     let few = not_this _ _ _ range.1 in
     let limits = or_parts _ _ range.0 in
-    field_kept before (field_of (declaration.Number name weight scale)) formed (record { name = names; weight = within_limit 1000 weight (omega arith) limits.0; fits = within_limit (10 ^ 12) scale (omega arith) limits.1 }) new.0 few.0
+    field_kept before (field_of (declaration.Number name weight scale)) formed
+    (record {
+      name = names;
+      weight = within_limit 1000 weight (omega arith) limits.0;
+      fits = within_limit (10 ^ 12) scale (omega arith) limits.1;
+    }) new.0 few.0
 extended_well_formed before (statement.Declaration (declaration.Code name weight list)) formed names faultless =
     let new = not_this _ _ _ faultless in
     let double = not_this _ _ _ new.1 in
@@ -165,7 +190,12 @@ extended_well_formed before (statement.Declaration (declaration.Code name weight
     let few = not_this _ _ _ range.1 in
     let limits = or_parts _ _ few.0 in
     let some : 1 ≤ length (listed list) = omega arith in
-    field_kept before (field_of (declaration.Code name weight list)) formed (record { name = names.0; weight = within_limit 1000 weight (omega arith) range.0; fits = (some, ltb-false _ _ limits.1, names.1, distinct_codes (listed list) double.0) }) new.0 limits.0
+    field_kept before (field_of (declaration.Code name weight list)) formed
+    (record {
+      name = names.0;
+      weight = within_limit 1000 weight (omega arith) range.0;
+      fits = (some, ltb-false _ _ limits.1, names.1, distinct_codes (listed list) double.0);
+    }) new.0 limits.0
 extended_well_formed before (statement.Rule r) formed names faultless =
     let known = not_this _ _ _ faultless in
     let codes = not_this _ _ _ known.1 in

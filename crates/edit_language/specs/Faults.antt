@@ -1,5 +1,6 @@
 -- What is wrong with a statement, seen from the survey of the lines before it: for each kind of fault, when it is there.
-use Rattle.std.specs.Prelude.{ℕ, ◌==◌, ◌&&◌, ◌||◌, ◌^◌, ◌++◌, not, Bool, true, false, Option, Some, None, List, [], ◌∷◌, codes, length, nat_le, nat_lt, unsigned_abs}
+use Rattle.std.specs.Prelude.{ℕ, ◌==◌, ◌&&◌, ◌||◌, ◌^◌, ◌++◌, not, Bool, true, false, Option, Some, None, List, [], ◌∷◌, codes, length}
+use Rattle.std.specs.Prelude.{nat_le, nat_lt, unsigned_abs}
 use Rattle.std.specs.Fmt.{decimal}
 use Rattle.std.specs.List.{list_all, list_any}
 use Rattle.std.specs.Str.{bytes_eq}
@@ -26,7 +27,8 @@ use Rattle.edit_language.specs.Meaning.{field_codes, field_named, field_of, is_l
 use Rattle.edit_language.specs.declared.fault.RulesFault.{RulesFault}
 use Rattle.edit_language.specs.declared.fault.RulesFault.TheVariants as fault
 use Rattle.edit_language.specs.declared.fault.RulesKind.{RulesKind}
-use Rattle.edit_language.specs.declared.fault.RulesKind.TheVariants.{BadByte, Syntax, UnknownField, DoubleField, UnknownCode, DoubleCode, NumberRange, TooMany, ConditionForm}
+use Rattle.edit_language.specs.declared.fault.RulesKind.TheVariants.{BadByte, Syntax, UnknownField, DoubleField, UnknownCode, DoubleCode}
+use Rattle.edit_language.specs.declared.fault.RulesKind.TheVariants.{NumberRange, TooMany, ConditionForm}
 
 -- ---- the kinds
 
@@ -130,6 +132,7 @@ is_large_term (term.Product factor times field) = is_above most_factor factor
 is_large_term (term.Field field) = false
 is_large_term (term.Constant number) = is_above (10 ^ 15) number
 
+-- whether the number of a term of the sum is above its limit, or no whole number
 abbrev pub is_large_sum : SumText → Bool
 is_large_sum s = list_any (λ (t : SignedTerm). is_large_term t.term) (terms_of s)
 
@@ -137,6 +140,7 @@ is_large_sum s = list_any (λ (t : SignedTerm). is_large_term t.term) (terms_of 
 abbrev pub is_large_factor : SumText → SumText → List ℕ → Bool
 is_large_factor left right name = nat_lt most_factor (unsigned_abs (moved_factor left right name))
 
+-- whether the factors of some field, added up, are above 10^9 in absolute value
 abbrev pub has_large_factor : List Field → SumText → SumText → Bool
 has_large_factor fields left right = list_any (λ (f : Field). is_large_factor left right f.name) fields
 
@@ -149,16 +153,19 @@ abbrev pub are_large_sums : List Field → SumText → SumText → Bool
 are_large_sums fields left right =
     is_large_sum left || (is_large_sum right || (has_large_factor fields left right || is_large_constant left right))
 
+-- whether a number of the test, or what is added up of its sums, is out of its limits; a code test has none
 abbrev pub is_large_test : List Field → TestText → Bool
 is_large_test fields (written.Codes field negated list) = false
 is_large_test fields (written.Sums left compare right) = are_large_sums fields left right
 
 -- ---- conditions
 
+-- whether the test is a number test: two sums with a comparison between them
 abbrev pub is_sums : TestText → Bool
 is_sums (written.Codes field negated list) = false
 is_sums (written.Sums left compare right) = true
 
+-- whether the test is a number test that compares with `=`
 abbrev pub is_equation : TestText → Bool
 is_equation (written.Sums left Eq right) = true
 is_equation other = false

@@ -1,5 +1,6 @@
 -- What a statement means: the field that it declares, or the edit that it sets over the fields before it.
-use Rattle.std.specs.Prelude.{ℕ, ℤ, suc, ◌+◌, ◌*◌, ◌++◌, Bool, Option, Some, None, List, [], ◌∷◌, find, map, position, unwrap_or, pos, neg_ℤ, ◌+ℤ◌, ◌-ℤ◌, if◌then◌else◌}
+use Rattle.std.specs.Prelude.{ℕ, ℤ, suc, ◌+◌, ◌*◌, ◌++◌, Bool, Option, Some, None, List, [], ◌∷◌, find, map, position, unwrap_or, pos}
+use Rattle.std.specs.Prelude.{neg_ℤ, ◌+ℤ◌, ◌-ℤ◌, if◌then◌else◌}
 use Rattle.std.specs.List.{list_any}
 use Rattle.std.specs.Ordering.{int_eq}
 use Rattle.std.specs.Str.{bytes_eq}

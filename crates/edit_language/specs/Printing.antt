@@ -81,6 +81,7 @@ abbrev pub sum_text : List Field → List Term → ℤ → List ℕ
 sum_text fields [] constant = signed_decimal constant
 sum_text fields (first ∷ rest) constant = terms_text fields first rest ++ later_constant_text constant
 
+-- the comparison of a sum with 0, with the blank before it
 abbrev pub compare_text : Compare → List ℕ
 compare_text Ge = codes " >= 0"
 compare_text Gt = codes " > 0"
@@ -98,6 +99,7 @@ linear_text fields l = sum_text fields l.terms l.constant ++ compare_text l.comp
 abbrev pub in_text : Bool → List ℕ
 in_text negated = if negated then codes " not in " else codes " in "
 
+-- a test: a sum and its comparison with 0, or a field and the codes that it may have or may not have
 abbrev pub test_text : List Field → Test → List ℕ
 test_text fields (test.Number l) = linear_text fields l
 test_text fields (test.Codes field negated set) =
@@ -121,6 +123,7 @@ abbrev pub kind_text : Kind → List ℕ
 kind_text (kind.Number scale) = codes " scale " ++ decimal scale
 kind_text (kind.Code list) = codes " in " ++ braced list
 
+-- the word that begins a declaration, with the blank behind it
 abbrev pub kind_word : Kind → List ℕ
 kind_word (kind.Number scale) = codes "number "
 kind_word (kind.Code list) = codes "code "

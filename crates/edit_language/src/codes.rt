@@ -1,4 +1,5 @@
-//! Lists of codes: whether one stands twice, and the set of a field's codes that they are.
+//! Lists of codes between braces: whether one stands twice in a list, and which set of a field's codes a
+//! list is.
 ghost use Rattle.std.specs.Prelude.{◌≡◌, ◌≢◌, ◌∷◌, ◌++◌, [], ◌≤◌, ◌<◌, ◌^◌, All, IfOk, MatchBool, length, if◌then◌else◌};
 ghost use Rattle.edit_language.specs.Faults.{has_double, has_double_code};
 ghost use Rattle.edit_language.specs.Meaning.{code_set, listed};
@@ -36,7 +37,8 @@ impl CodeTable {
         }
     }
 
-    // Puts the code last, and answers whether it is new.
+    // Puts a code that is not in the table last, and answers true; false where it is there already, and
+    // nothing changes.
     fn insert(&mut self, alloc: Global, code: &Name) -> Result<bool, OutOfMemory>
         ensures { IfOk result (λ added. Inserts added self.old code.now self.new) }
     {
@@ -59,7 +61,7 @@ pub(crate) fn has_double(alloc: Global, list: &CodeList) -> Result<bool, OutOfMe
     Ok(false)
 }
 
-/// Whether a code stands twice in the test's list.
+/// Whether a code stands twice in the list of a code test. A number test has no list, so none does.
 pub(crate) fn has_double_code(alloc: Global, test: &TestText) -> Result<bool, OutOfMemory>
     ensures { IfOk result (λ double. double ≡ has_double_code test.now) }
 {
@@ -69,7 +71,8 @@ pub(crate) fn has_double_code(alloc: Global, test: &TestText) -> Result<bool, Ou
     }
 }
 
-// The set of the one code at this place, or of none.
+// The set of the code at `place` alone where that is `wanted`, and else of no code. Bit c of a set stands
+// for the code of number c.
 fn bit_if(wanted: bool, place: usize) -> u64
     requires { place < 64 }
     ensures { result ≡ (if wanted then 2 ^ place else 0) }
@@ -77,7 +80,8 @@ fn bit_if(wanted: bool, place: usize) -> u64
     if wanted { 1 << place } else { 0 }
 }
 
-/// The set of those of the codes that are listed: bit c stands for the code of number c.
+/// The set of those of a field's codes that are listed: bit c stands for the code of number c. A listed
+/// code that is none of the field's is passed over.
 pub(crate) fn code_set(codes: &[Name], list: &CodeList) -> u64
     requires { length codes.now ≤ 64 }
     ensures { result ≡ code_set codes.now (listed list.now) }
@@ -89,8 +93,8 @@ pub(crate) fn code_set(codes: &[Name], list: &CodeList) -> u64
     set
 }
 
-/// All codes of a list.
-pub(crate) fn listed(list: CodeList) -> Result<Vec<Name>, OutOfMemory>
+/// All codes of a list, in order: the first, and then the rest.
+pub(crate) fn listed_codes(list: CodeList) -> Result<Vec<Name>, OutOfMemory>
     ensures { IfOk result (λ codes. codes.items ≡ listed list) }
 {
     let mut codes = list.rest.into_vec();

@@ -1,3 +1,9 @@
+//! The survey that a rule text declares, while its lines are read. Each line adds a field, an edit or
+//! nothing to a draft, or has a fault.
+//!
+//! In contracts, `extended` is the survey with what a statement declares. `Adds` says that a line declares
+//! just that, or nothing. `GivesNames` says that a declaration's name and codes have the form of names.
+//! `IsFaultOfLine` and `IsFaultOfStatement` say that this is the least kind of fault.
 ghost use Rattle.std.specs.Prelude.{◌≡◌, ◌+◌, ◌<◌, ◌^◌, None, false, IfErr, IfOk, OnOk, length};
 ghost use Rattle.edit_model.specs.Surveys.{IsWellFormed};
 ghost use Rattle.rule_grammar.specs.Names.{GivesNames};
@@ -17,7 +23,7 @@ use rule_grammar::{Declaration, LineText, RuleText, Statement, read_line};
 use std::alloc::Global;
 use std::marker::Model;
 
-/// What the lines before have declared and set. It is well formed.
+/// The fields and the edits that the lines so far have declared. It is well formed after each line.
 #[derive(Drop)]
 pub(crate) struct Draft {
     fields: Vec<Field>,
@@ -36,7 +42,7 @@ impl Model for Draft {
 }
 
 impl Draft {
-    /// The draft before the first line.
+    /// The draft before the first line, without fields and edits.
     pub(crate) fn new(alloc: Global) -> Draft
         ensures { result ≡ no_statements }
     {
@@ -46,7 +52,7 @@ impl Draft {
         }
     }
 
-    // Takes a declaration that has no fault.
+    // Adds the field of a declaration. The declaration has no fault after the lines before it.
     fn declare(&mut self, declaration: Declaration) -> Result<(), OutOfMemory>
         requires names { GivesNames (Statement.Declaration declaration) }
         requires faultless { declaration_fault self.old declaration ≡ None }
@@ -56,7 +62,7 @@ impl Draft {
         Ok(())
     }
 
-    // Takes a rule that has no fault.
+    // Adds the edit of a rule. The rule has no fault after the lines before it.
     fn set(&mut self, alloc: Global, rule: &RuleText) -> Result<(), OutOfMemory>
         requires { rule_fault self.old rule.now ≡ None }
         ensures { OnOk result (self.new ≡ extended self.old (Statement.Rule rule.now)) }
@@ -66,7 +72,8 @@ impl Draft {
         Ok(())
     }
 
-    // Takes a statement that has no fault.
+    // Adds what a statement declares: a field, or an edit. The statement has no fault after the lines
+    // before it.
     fn extend(&mut self, alloc: Global, statement: Statement) -> Result<(), OutOfMemory>
         requires names { GivesNames statement }
         requires faultless { fault_of self.old statement ≡ None }
@@ -78,7 +85,8 @@ impl Draft {
         }
     }
 
-    // Takes the statement on the line of this number, where it has no fault.
+    // Adds what the statement on line `number` declares. Where it has a fault, `At` tells that line and
+    // the least kind, and the draft is as before.
     fn take_statement(
         &mut self,
         alloc: Global,
@@ -101,7 +109,9 @@ impl Draft {
         }
     }
 
-    /// Takes what the line of this number says, where it has no fault.
+    /// Takes what the line of this `number` says: nothing where it has blanks and a comment alone, and
+    /// else a statement. `At` where it has a fault: a bad byte comes first, a line that is no statement
+    /// next, and then the faults of the statement.
     pub(crate) fn take_line(
         &mut self,
         alloc: Global,
@@ -128,7 +138,9 @@ impl Draft {
         }
     }
 
-    /// Takes what the last line says, which has `earlier` lines before it. An empty line says nothing.
+    /// Takes what stands behind the last line feed. `earlier` lines stand before it. Where `line` is empty
+    /// nothing is taken, and `earlier + 1`, which might be 2^32, is not computed. The bound holds since
+    /// each earlier line took at least one byte of a text of fewer than 2^32.
     pub(crate) fn take_last_line(
         &mut self,
         alloc: Global,
@@ -145,7 +157,7 @@ impl Draft {
         self.take_line(alloc, line, earlier + 1)
     }
 
-    /// The survey of all lines.
+    /// The survey that all lines together declare, once each of them is taken.
     pub(crate) fn into_survey(self, alloc: Global) -> Result<Survey, OutOfMemory>
         ensures survey { IfOk result (λ survey. survey ≡ self) }
         ensures well_formed { IfOk result (λ survey. IsWellFormed survey) }

@@ -1,3 +1,4 @@
+//! What is wrong with a rule text, and the words that are printed for it.
 ghost use Rattle.std.specs.Prelude.{◌≡◌};
 ghost use Rattle.edit_language.specs.Faults.{kind_number};
 
@@ -29,7 +30,8 @@ pub enum RulesKind {
 }
 
 impl RulesKind {
-    /// The kind's number, from 1 to 9: of the kinds that a line has, the least is answered.
+    /// The kind's number, from 1 to 9. Of several kinds of fault on one line, the one of the least number
+    /// is answered.
     pub fn number(self) -> u8
         ensures { result ≡ kind_number self }
     {
@@ -53,6 +55,7 @@ impl fmt::Display for RulesKind {
 
     ghost output = { λ kind. Some (kind_name kind) };
 
+    // Writes the name of the kind, as `Syntax`.
     fn fmt<W: fmt::Write>(&self, f: &mut fmt::Formatter<W>) -> fmt::Result {
         f.write_str(match self {
             RulesKind::BadByte => "BadByte",
@@ -83,6 +86,7 @@ impl fmt::Display for RulesFault {
 
     ghost output = { λ fault. Some (fault_text fault) };
 
+    // Writes the line, and the number and the name of the kind, as `line 3 kind 2 Syntax`.
     fn fmt<W: fmt::Write>(&self, f: &mut fmt::Formatter<W>) -> fmt::Result {
         match self {
             RulesFault::At { line, kind } => {
@@ -102,6 +106,7 @@ impl From<OutOfMemory> for RulesFault {
 
     ghost from_gives = { λ _ fault. fault ≡ faults.OutOfMemory };
 
+    // Refused memory becomes the fault `OutOfMemory`, so that `?` passes it on.
     fn from(_refused: OutOfMemory) -> Self {
         RulesFault::OutOfMemory
     }
@@ -113,6 +118,7 @@ impl From<AllocError> for RulesFault {
 
     ghost from_gives = { λ _ fault. fault ≡ faults.OutOfMemory };
 
+    // Refused memory becomes the fault `OutOfMemory`, so that `?` passes it on.
     fn from(_refused: AllocError) -> Self {
         RulesFault::OutOfMemory
     }
@@ -124,6 +130,7 @@ impl<T: Drop> From<AllocFailed<T>> for RulesFault {
 
     ghost from_gives = { λ _ fault. fault ≡ faults.OutOfMemory };
 
+    // Refused memory becomes the fault `OutOfMemory`. The element that found no room is dropped.
     fn from(_refused: AllocFailed<T>) -> Self {
         RulesFault::OutOfMemory
     }

@@ -1,4 +1,8 @@
-//! The least kind of fault of a statement, seen from the fields and the rules before it.
+//! The least kind of fault of a statement, by the fields and the rules before it. Faults are looked for in
+//! the order of their kinds, so that the first that is found is the least.
+//!
+//! In contracts, `IsDeclarationFault` says that this is the least kind of fault of a declaration after
+//! these fields, whatever the rules are. `tests_of` a rule are its conditions and its conclusion.
 ghost use Rattle.std.specs.Prelude.{◌≡◌, List, IfOk};
 ghost use Rattle.std.specs.List.{list_all, list_any};
 ghost use Rattle.std.specs.Str.{bytes_eq};
@@ -32,14 +36,15 @@ const MOST_WEIGHT: u64 = 1000;
 /// The largest scale of a numerical field.
 const MOST_SCALE: u64 = 1_000_000_000_000;
 
-// Whether a field has the name.
+// Whether one of the fields has the name.
 fn is_declared(fields: &[Field], name: &Name) -> bool
     ensures { result ≡ list_any (λ f. bytes_eq f.name name.now) fields.now }
 {
     fields.iter().any(|f| f.name.as_bytes() == name.as_bytes())
 }
 
-// The fault of the declaration of a numerical field.
+// The least kind of fault of the declaration of a numerical field after these fields, or None where it has
+// none. A weight or a scale that is not written is no fault.
 fn number_fault(
     fields: &[Field],
     name: &Name,
@@ -59,7 +64,8 @@ fn number_fault(
     }
 }
 
-// The fault of the declaration of a categorical field.
+// The least kind of fault of the declaration of a categorical field after these fields, or None where it
+// has none. The first code of the list is not in `rest`, so 64 there are 65 codes.
 fn code_fault(
     alloc: Global,
     fields: &[Field],
@@ -82,28 +88,30 @@ fn code_fault(
     }
 }
 
-// Whether each name of these tests is of a field of the kind that its place needs.
+// Whether each name in these tests is that of a declared field of the kind that its place needs.
+// `is_known_test` says which kind that is.
 fn are_known_tests(fields: &[Field], tests: &[TestText]) -> bool
     ensures { result ≡ list_all (λ t. is_known_test fields.now t) tests.now }
 {
     tests.iter().all(|test| is_known_test(fields, test))
 }
 
-// Whether each name of the rule is of a field of the kind that its place needs.
+// Whether each name in the rule is that of a declared field of the kind that its place needs.
+// `is_known_test` says which kind that is.
 fn is_known_rule(fields: &[Field], rule: &RuleText) -> bool
     ensures { result ≡ list_all (λ t. is_known_test fields.now t) (tests_of rule.now) }
 {
     are_known_tests(fields, rule.conditions.as_slice()) && is_known_test(fields, &rule.conclusion)
 }
 
-// Whether each code of these tests is a code of its field.
+// Whether each code in these tests is a code of the field that is tested.
 fn have_known_codes(fields: &[Field], tests: &[TestText]) -> bool
     ensures { result ≡ list_all (λ t. has_known_codes fields.now t) tests.now }
 {
     tests.iter().all(|test| has_known_codes(fields, test))
 }
 
-// Whether each code of the rule is a code of its field.
+// Whether each code in the rule is a code of the field that is tested.
 fn has_rule_known_codes(fields: &[Field], rule: &RuleText) -> bool
     ensures { result ≡ list_all (λ t. has_known_codes fields.now t) (tests_of rule.now) }
 {
@@ -111,7 +119,7 @@ fn has_rule_known_codes(fields: &[Field], rule: &RuleText) -> bool
         && has_known_codes(fields, &rule.conclusion)
 }
 
-// Whether a code stands twice in a list of these tests.
+// Whether a code stands twice in the list of one of these tests.
 fn have_double_codes(alloc: Global, tests: &[TestText]) -> Result<bool, OutOfMemory>
     ensures { IfOk result (λ double. double ≡ list_any has_double_code tests.now) }
 {
@@ -133,7 +141,8 @@ fn has_rule_double_code(alloc: Global, rule: &RuleText) -> Result<bool, OutOfMem
     has_double_code(alloc, &rule.conclusion)
 }
 
-// Whether a number of the test, or what its terms add up to, is out of its limits.
+// Whether a number that stands in the test, or what its terms add up to, is out of its limits (`sums.rt`
+// has them). A code test has no number.
 fn is_large_test(fields: &[Field], test: &TestText) -> bool
     ensures { result ≡ is_large_test fields.now test.now }
 {
@@ -143,35 +152,35 @@ fn is_large_test(fields: &[Field], test: &TestText) -> bool
     }
 }
 
-// Whether a number of any of these tests is out of its limits.
+// Whether a number of any of these tests, or what its terms add up to, is out of its limits.
 fn are_large_tests(fields: &[Field], tests: &[TestText]) -> bool
     ensures { result ≡ list_any (λ t. is_large_test fields.now t) tests.now }
 {
     tests.iter().any(|test| is_large_test(fields, test))
 }
 
-// Whether a number of the rule is out of its limits.
+// Whether a number of the rule, or what the terms of a test add up to, is out of its limits.
 fn is_large_rule(fields: &[Field], rule: &RuleText) -> bool
     ensures { result ≡ list_any (λ t. is_large_test fields.now t) (tests_of rule.now) }
 {
     are_large_tests(fields, rule.conditions.as_slice()) || is_large_test(fields, &rule.conclusion)
 }
 
-// Whether the test is a number test.
+// Whether the test is a number test, which compares two sums, and no code test.
 fn is_sums(test: &TestText) -> bool
     ensures { result ≡ is_sums test.now }
 {
     matches!(test, TestText::Sums { .. })
 }
 
-// Whether one of these tests is.
+// Whether one of these tests or more is a number test.
 fn are_sums(tests: &[TestText]) -> bool
     ensures { result ≡ list_any is_sums tests.now }
 {
     tests.iter().any(|test| is_sums(test))
 }
 
-// Whether the test is an equation.
+// Whether the test is a number test that compares with `=`.
 fn is_equation(test: &TestText) -> bool
     ensures { result ≡ is_equation test.now }
 {
@@ -184,14 +193,15 @@ fn is_equation(test: &TestText) -> bool
     }
 }
 
-// Whether one of these tests is.
+// Whether one of these tests or more compares with `=`.
 fn are_equations(tests: &[TestText]) -> bool
     ensures { result ≡ list_any is_equation tests.now }
 {
     tests.iter().any(|test| is_equation(test))
 }
 
-// Whether a number test among the conditions is the only one, is no equation, and implies a code test.
+// Whether the conditions are of a form that the language has. Code tests alone are, before any conclusion.
+// A number test is one where it is the only condition and no equation, and the conclusion is a code test.
 fn has_form(rule: &RuleText) -> bool
     ensures { result ≡ has_rule_form rule.now }
 {
@@ -200,7 +210,8 @@ fn has_form(rule: &RuleText) -> bool
         || (conditions.len() == 1 && !are_equations(conditions) && !is_sums(&rule.conclusion))
 }
 
-// The fault of a rule over the fields before it.
+// The least kind of fault of `rule` after these fields and rules, or None where it has none. The kinds are
+// tried in the order of their numbers.
 fn rule_fault(
     alloc: Global,
     fields: &[Field],
@@ -226,7 +237,8 @@ fn rule_fault(
     }
 }
 
-// The fault of a declaration.
+// The least kind of fault of a declaration after these fields, or None where it has none. The rules before
+// it don't matter, so they are not given.
 fn declaration_fault(
     alloc: Global,
     fields: &[Field],
@@ -244,7 +256,7 @@ fn declaration_fault(
     }
 }
 
-/// The least kind of fault that the statement has after these fields and rules.
+/// The least kind of fault that the statement has after these fields and rules, or None where it has none.
 pub(crate) fn fault_of(
     alloc: Global,
     fields: &[Field],

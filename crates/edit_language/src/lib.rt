@@ -1,8 +1,9 @@
 //! The rule language. A rule text declares the fields of a survey and sets its edits, one statement a
-//! line; [`read_rules`] reads one, [`print_rules`] writes one. What a text says is in `specs/Grammar.antt`,
-//! what a statement means in `specs/Meaning.antt`, what is wrong with one in `specs/Faults.antt`. Who prints
-//! an edit that is no rule of a survey writes it of the same parts: [`conditions_text`], [`write_term`],
-//! [`write_constant`] and [`compare_text`], by `specs/Printing.antt`; [`rule_text`] is one rule's line.
+//! line; [`read_rules`] reads one, [`print_rules`] writes one. What a text says is in
+//! `specs/Grammar.antt`, what a statement means in `specs/Meaning.antt`, what is wrong with one in
+//! `specs/Faults.antt`. An edit that is no rule of a survey is printed by the same parts, which
+//! `specs/Printing.antt` states: [`conditions_text`], [`write_term`], [`write_constant`] and
+//! [`compare_text`]. [`rule_text`] is one rule's line.
 #![tactic(auto)]
 
 mod codes;

@@ -7,7 +7,7 @@ ghost use Rattle.edit_language.specs.inner.FirstFault.{tests_of};
 ghost use Rattle.edit_language.specs.Meaning.{field_of, number_or_one, rule_of, test_of};
 ghost use Rattle.edit_language.specs.inner.Weights.{weight_of};
 
-use crate::codes::{code_set, listed};
+use crate::codes::{code_set, listed_codes};
 use crate::names::{codes_of, number_named};
 use crate::numbers::number_or_one;
 use crate::sums::{moved_terms, small_constant};
@@ -16,7 +16,8 @@ use foundation::{OutOfMemory, Sequence};
 use rule_grammar::{Declaration, Numeral, RuleText, TestText};
 use std::alloc::Global;
 
-// The test over these fields.
+// The test that a test's text means over these fields. No number of it is out of its limits. A name that
+// no field has counts as the first field; the caller has refused such a test.
 fn test_of(alloc: Global, fields: &[Field], test: &TestText) -> Result<Test, OutOfMemory>
     requires few { length fields.now ≤ 64 }
     requires fields { All IsField fields.now }
@@ -45,7 +46,7 @@ fn test_of(alloc: Global, fields: &[Field], test: &TestText) -> Result<Test, Out
     }
 }
 
-// The tests over these fields, in order.
+// The tests that these texts mean over the fields, in order. No number of them is out of its limits.
 fn tests_of(alloc: Global, fields: &[Field], tests: &[TestText]) -> Result<Vec<Test>, OutOfMemory>
     requires few { length fields.now ≤ 64 }
     requires fields { All IsField fields.now }
@@ -59,7 +60,7 @@ fn tests_of(alloc: Global, fields: &[Field], tests: &[TestText]) -> Result<Vec<T
     Ok(made)
 }
 
-/// The edit over these fields.
+/// The edit that a rule's text means over these fields. No number of it is out of its limits.
 pub(crate) fn rule_of(alloc: Global, fields: &[Field], rule: &RuleText) -> Result<Rule, OutOfMemory>
     requires few { length fields.now ≤ 64 }
     requires fields { All IsField fields.now }
@@ -73,7 +74,7 @@ pub(crate) fn rule_of(alloc: Global, fields: &[Field], rule: &RuleText) -> Resul
     })
 }
 
-// The weight that is written, or 1.
+// The weight that is written, or 1 where none is. It is at most 1000, so that it fits 32 bits.
 fn weight_in(weight: Option<Numeral>) -> u32
     requires { is_outside 1000 weight ≡ false }
     ensures { result ≡ number_or_one weight }
@@ -81,7 +82,7 @@ fn weight_in(weight: Option<Numeral>) -> u32
     number_or_one(weight) as u32
 }
 
-/// The field that is declared.
+/// The field that a declaration declares. A weight or a scale that is not written is 1.
 pub(crate) fn field_of(declaration: Declaration) -> Result<Field, OutOfMemory>
     requires { is_outside 1000 (weight_of declaration) ≡ false }
     ensures { IfOk result (λ field. field ≡ field_of declaration) }
@@ -102,7 +103,7 @@ pub(crate) fn field_of(declaration: Declaration) -> Result<Field, OutOfMemory>
             name,
             weight: weight_in(weight),
             kind: Kind::Code {
-                codes: Sequence::from_vec(listed(list)?),
+                codes: Sequence::from_vec(listed_codes(list)?),
             },
         }),
     }

@@ -1,4 +1,4 @@
-//! The fields and codes that a statement names.
+//! The fields and codes that a statement names: whether they are declared, and which ones they are.
 ghost use Rattle.std.specs.Prelude.{◌≡◌, ◌||◌, IfSome, length, option_map};
 ghost use Rattle.std.specs.List.{list_all};
 ghost use Rattle.edit_language.specs.Faults.{is_code_name, is_known_sum, is_known_term, is_known_test, is_number_name};
@@ -8,7 +8,7 @@ ghost use Rattle.edit_language.specs.Meaning.{kind_codes, field_codes, field_nam
 use edit_model::{Field, Kind, Name};
 use rule_grammar::{CodeList, SignedTerm, SumText, TermText, TestText};
 
-/// The number of the field that has the name.
+/// The number, in declared order from 0, of the field that has the name, or None where none has.
 pub(crate) fn number_named(fields: &[Field], name: &Name) -> Option<usize>
     ensures { result ≡ number_named fields.now name.now }
 {
@@ -17,7 +17,7 @@ pub(crate) fn number_named(fields: &[Field], name: &Name) -> Option<usize>
         .position(|field| field.name.as_bytes() == name.as_bytes())
 }
 
-/// The field that has the name.
+/// The field that has the name, or None where none has.
 pub(crate) fn field_named<'a>(fields: &'a [Field], name: &Name) -> Option<&'a Field>
     ensures { option_map (λ f. f.now) result ≡ field_named fields.now name.now }
 {
@@ -26,7 +26,7 @@ pub(crate) fn field_named<'a>(fields: &'a [Field], name: &Name) -> Option<&'a Fi
         .find(|field| field.name.as_bytes() == name.as_bytes())
 }
 
-// Whether a numerical field has the name.
+// Whether a numerical field has the name. It is false of a name that no field has.
 fn is_number_name(fields: &[Field], name: &Name) -> bool
     ensures { result ≡ is_number_name fields.now name.now }
 {
@@ -36,7 +36,7 @@ fn is_number_name(fields: &[Field], name: &Name) -> bool
     }
 }
 
-// Whether a categorical field has the name.
+// Whether a categorical field has the name. It is false of a name that no field has.
 fn is_code_name(fields: &[Field], name: &Name) -> bool
     ensures { result ≡ is_code_name fields.now name.now }
 {
@@ -46,7 +46,7 @@ fn is_code_name(fields: &[Field], name: &Name) -> bool
     }
 }
 
-// Whether the term's field, if it has one, is a numerical field.
+// Whether the term is a constant, or names a numerical field.
 fn is_known_term(fields: &[Field], term: &TermText) -> bool
     ensures { result ≡ is_known_term fields.now term.now }
 {
@@ -57,7 +57,7 @@ fn is_known_term(fields: &[Field], term: &TermText) -> bool
     }
 }
 
-// Whether each of these terms has a numerical field, if it has one.
+// Whether each of these terms is a constant, or names a numerical field.
 fn are_known_terms(fields: &[Field], terms: &[SignedTerm]) -> bool
     ensures { result ≡ list_all (λ t. is_known_term fields.now t.term) terms.now }
 {
@@ -66,14 +66,15 @@ fn are_known_terms(fields: &[Field], terms: &[SignedTerm]) -> bool
         .all(|signed| is_known_term(fields, &signed.term))
 }
 
-// Whether each term of the sum has a numerical field, if it has one.
+// Whether each term of the sum is a constant, or names a numerical field.
 fn is_known_sum(fields: &[Field], sum: &SumText) -> bool
     ensures { result ≡ is_known_sum fields.now sum.now }
 {
     is_known_term(fields, &sum.first) && are_known_terms(fields, sum.rest.as_slice())
 }
 
-/// Whether each name of the test is of a field of the kind that its place needs.
+/// Whether each name in the test is that of a declared field of the right kind. Before `in` that is a
+/// categorical one, and in a sum a numerical one.
 pub(crate) fn is_known_test(fields: &[Field], test: &TestText) -> bool
     ensures { result ≡ is_known_test fields.now test.now }
 {
@@ -85,7 +86,7 @@ pub(crate) fn is_known_test(fields: &[Field], test: &TestText) -> bool
     }
 }
 
-// The codes of a kind of field, none where it is numerical.
+// The codes of a kind of field; a numerical one has none.
 fn codes_in(kind: &Kind) -> &[Name]
     ensures { result.now ≡ kind_codes kind.now }
 {
@@ -95,7 +96,7 @@ fn codes_in(kind: &Kind) -> &[Name]
     }
 }
 
-/// The codes of the field that has the name, none where there is none.
+/// The codes of the field that has the name. There are none where no field has it, or a numerical one.
 pub(crate) fn codes_of<'a>(fields: &'a [Field], name: &Name) -> &'a [Name]
     ensures { result.now ≡ field_codes (field_named fields.now name.now) }
 {
@@ -105,7 +106,7 @@ pub(crate) fn codes_of<'a>(fields: &'a [Field], name: &Name) -> &'a [Name]
     }
 }
 
-// Whether the code is one of these.
+// Whether `code` is one of `codes`, byte for byte.
 fn is_code_of(codes: &[Name], code: &Name) -> bool
     ensures { result ≡ is_listed codes.now code.now }
 {
@@ -119,21 +120,21 @@ pub(crate) fn is_listed(list: &CodeList, code: &Name) -> bool
     list.first.as_bytes() == code.as_bytes() || is_code_of(list.rest.as_slice(), code)
 }
 
-// Whether each of the others is one of the codes.
+// Whether each of `others` is one of `codes`.
 fn are_codes_of(codes: &[Name], others: &[Name]) -> bool
     ensures { result ≡ list_all (λ code. is_listed codes.now code) others.now }
 {
     others.iter().all(|code| is_code_of(codes, code))
 }
 
-// Whether each code of the list is one of the codes.
+// Whether each code of `list` is one of `codes`.
 fn has_codes_of(codes: &[Name], list: &CodeList) -> bool
     ensures { result ≡ list_all (λ code. is_listed codes.now code) (listed list.now) }
 {
     is_code_of(codes, &list.first) && are_codes_of(codes, list.rest.as_slice())
 }
 
-/// Whether each code of a code test is a code of its field.
+/// Whether each code of a code test is a code of its field. A number test lists none, so it is true of one.
 pub(crate) fn has_known_codes(fields: &[Field], test: &TestText) -> bool
     ensures { result ≡ has_known_codes fields.now test.now }
 {

@@ -1,11 +1,13 @@
-//! The numbers that a statement has, and their limits.
+//! The numbers that a statement has, and their limits. A numeral that is out of range is no whole number,
+//! or is above 10^15.
 ghost use Rattle.std.specs.Prelude.{◌≡◌};
 ghost use Rattle.edit_language.specs.Faults.{is_above, is_outside};
 ghost use Rattle.edit_language.specs.Meaning.{numeral_value, number_or_one};
 
 use rule_grammar::Numeral;
 
-/// The number that a numeral spells, 0 where it is out of range.
+/// The number that a numeral spells. Out of range it counts as 0, but such a numeral is a fault, so its
+/// statement is not taken.
 pub(crate) fn number_in(numeral: Numeral) -> u64
     ensures { result ≡ numeral_value numeral }
 {
@@ -15,7 +17,8 @@ pub(crate) fn number_in(numeral: Numeral) -> u64
     }
 }
 
-/// The number that a numeral spells, 1 where there is none.
+/// The number that a numeral spells, or 1 where none is written, as for a weight or a scale that is left
+/// out.
 pub(crate) fn number_or_one(numeral: Option<Numeral>) -> u64
     ensures { result ≡ number_or_one numeral }
 {
@@ -25,7 +28,7 @@ pub(crate) fn number_or_one(numeral: Option<Numeral>) -> u64
     }
 }
 
-/// Whether the numeral is no whole number, or is above the limit.
+/// Whether the numeral is no whole number, or is above the limit: then it is a fault.
 pub(crate) fn is_above(limit: u64, numeral: Numeral) -> bool
     ensures { result ≡ is_above limit numeral }
 {
@@ -35,7 +38,7 @@ pub(crate) fn is_above(limit: u64, numeral: Numeral) -> bool
     }
 }
 
-/// Whether the numeral is written, and no whole number from 1 to the limit.
+/// Whether a numeral is written, and is no whole number from 1 to the limit: then it is a fault.
 pub(crate) fn is_outside(limit: u64, numeral: Option<Numeral>) -> bool
     ensures { result ≡ is_outside limit numeral }
 {

@@ -1,4 +1,5 @@
-//! A survey as a rule text.
+//! A survey as a rule text, which is read again as the same survey. [`print_rules`] begins here; the parts
+//! of a line are in the files below.
 ghost use Rattle.std.specs.Prelude.{◌≡◌, ◌++◌, IfOk, OnOk};
 ghost use Rattle.edit_language.specs.Grammar.{IsRuleText};
 ghost use Rattle.edit_language.specs.Printing.{field_lines, printed, rule_lines};
@@ -16,8 +17,8 @@ pub use rules::{conditions_text, rule_text};
 use std::alloc::Global;
 pub use sums::{compare_text, write_constant, write_term};
 
-/// The survey as a rule text: its declarations and then its rules, a line each. What it prints is read
-/// again as the same survey.
+/// The survey as a rule text: its declarations and then its rules, a line each, with line feeds. The text
+/// is read again as the same survey (`read_again`).
 pub fn print_rules(alloc: Global, survey: &Survey) -> Result<Vec<u8>, OutOfMemory>
     ensures text { IfOk result (λ text. text.items ≡ printed survey.now) }
     ensures read_again { IfOk result (λ text. IsRuleText text.items survey.now) }
@@ -29,7 +30,7 @@ pub fn print_rules(alloc: Global, survey: &Survey) -> Result<Vec<u8>, OutOfMemor
     Ok(text)
 }
 
-// Appends a line for each declaration.
+// Appends the declaration of each field, each as a line with its line feed.
 fn write_fields(text: &mut Vec<u8>, fields: &[Field]) -> Result<(), OutOfMemory>
     ensures { OnOk result (text.new.items ≡ text.old.items ++ field_lines fields.now) }
 {
@@ -40,7 +41,7 @@ fn write_fields(text: &mut Vec<u8>, fields: &[Field]) -> Result<(), OutOfMemory>
     Ok(())
 }
 
-// Appends a line for each rule.
+// Appends each rule as a line with its line feed.
 fn write_rules(text: &mut Vec<u8>, fields: &[Field], rules: &[Rule]) -> Result<(), OutOfMemory>
     ensures { OnOk result (text.new.items ≡ text.old.items ++ rule_lines fields.now rules.now) }
 {

@@ -1,3 +1,7 @@
+//! Rule texts are read here, line by line, into the survey that they declare.
+//!
+//! In contracts, `IsRuleText` says that the lines of the text declare this survey, and `IsFaultOf` that
+//! the fault is the text's first.
 ghost use Rattle.std.specs.Prelude.{◌≡◌, ◌<◌, ◌^◌, IfErr, IfOk, length};
 ghost use Rattle.edit_model.specs.Parts.{SurveyParts};
 ghost use Rattle.edit_model.specs.Surveys.{IsWellFormed};
@@ -10,8 +14,9 @@ use crate::line::{first_line, without_mark};
 use edit_model::Survey;
 use std::alloc::Global;
 
-/// The survey that a rule text of fewer than 2^32 bytes declares. `At` exactly where the bytes are no rule
-/// text: the first line that has a fault, from 1, and the least kind of fault that it has.
+/// The survey that a rule text of fewer than 2^32 bytes declares, so that the number of each line fits 32
+/// bits. `At` exactly where the bytes are no rule text: it tells the first line with a fault, from 1, and
+/// its least kind of fault.
 pub fn read_rules(alloc: Global, bytes: &[u8]) -> Result<Survey, RulesFault>
     requires { length bytes.now < 2 ^ 32 }
     ensures survey { IfOk result (λ survey. IsRuleText bytes.now survey) }

@@ -1,8 +1,14 @@
-//! Linear tests: everything is moved to the left side, and the terms of each field are added up.
-ghost use Rattle.std.specs.Prelude.{◌≡◌, ◌++◌, ◌∷◌, [], ◌+◌, ◌*◌, ◌^◌, ◌≤◌, ◌||◌, false, length, nat_lt, option_map, pos, unsigned_abs, if◌then◌else◌, IfOk, OnOk};
+//! Linear tests: everything is moved to the left side, and the terms of each field are added up. So
+//! `2 A - B >= A + 3` becomes `A - B - 3 >= 0`.
+//!
+//! In contracts, `is_large_sum .. ≡ false` says that each number that stands in the sum is within its
+//! limit, so that they can be added up.
+ghost use Rattle.std.specs.Prelude.{◌≡◌, ◌++◌, ◌∷◌, [], ◌+◌, ◌*◌, ◌^◌, ◌≤◌, ◌||◌, false, length, nat_lt, option_map, pos, unsigned_abs};
+ghost use Rattle.std.specs.Prelude.{if◌then◌else◌, IfOk, OnOk};
 ghost use Rattle.std.specs.List.{list_any};
 ghost use Rattle.std.specs.Ordering.{int_eq};
-ghost use Rattle.edit_language.specs.Faults.{are_large_sums, has_large_factor, is_large_constant, is_large_factor, is_large_sum, is_large_term};
+ghost use Rattle.edit_language.specs.Faults.{are_large_sums, has_large_factor, is_large_constant, is_large_factor, is_large_sum};
+ghost use Rattle.edit_language.specs.Faults.{is_large_term};
 ghost use Rattle.edit_language.specs.Meaning.{constant_in, factor_in, moved_constant, moved_factor, moved_terms, signed, terms_of};
 ghost use Rattle.edit_language.specs.inner.Sums.{part_in, parts_added, parts_moved, with_term};
 
@@ -18,7 +24,8 @@ const MOST_FACTOR: u64 = 1_000_000_000;
 /// The largest constant, in absolute value.
 const MOST_CONSTANT: u64 = 1_000_000_000_000_000;
 
-// Whether the number of the term is no whole number, or above its limit.
+// Whether the number that stands in the term is no whole number, or above its limit: `MOST_FACTOR` for a
+// factor, `MOST_CONSTANT` for a constant.
 fn is_large_term(term: &TermText) -> bool
     ensures { result ≡ is_large_term term.now }
 {
@@ -29,21 +36,22 @@ fn is_large_term(term: &TermText) -> bool
     }
 }
 
-// Whether a number of any of these terms is above its limit.
+// Whether the number of any of these terms is no whole number, or above its limit (`is_large_term`).
 fn are_large_terms(terms: &[SignedTerm]) -> bool
     ensures { result ≡ list_any (λ t. is_large_term t.term) terms.now }
 {
     terms.iter().any(|signed| is_large_term(&signed.term))
 }
 
-// Whether a number of any term of the sum is above its limit.
+// Whether the number of any term of the sum is no whole number, or above its limit (`is_large_term`).
 fn is_large_sum(sum: &SumText) -> bool
     ensures { result ≡ is_large_sum sum.now }
 {
     is_large_term(&sum.first) || are_large_terms(sum.rest.as_slice())
 }
 
-// What a term is to the field with this name.
+// What a term, without its sign, adds to the factor of the field with this name: 0 where it is a constant
+// or another field's.
 fn factor_in(name: &Name, term: &TermText) -> u64
     ensures { result ≡ factor_in name.now term.now }
 {
@@ -66,7 +74,7 @@ fn factor_in(name: &Name, term: &TermText) -> u64
     }
 }
 
-// What a term is, where it is no field's.
+// What a term, without its sign, adds to the constant: 0 where it is a field's.
 fn constant_in(term: &TermText) -> u64
     ensures { result ≡ constant_in term.now }
 {
@@ -76,7 +84,8 @@ fn constant_in(term: &TermText) -> u64
     }
 }
 
-// What a term is to the field with this name, or to the constant.
+// What a term, without its sign, adds to the factor of the field with this `name`, or to the constant
+// where no name is given. It is within its limit, so at most 10^15.
 fn part_in(name: Option<&Name>, term: &TermText) -> u64
     requires { is_large_term term.now ≡ false }
     ensures value { result ≡ part_in (option_map (λ n. n.now) name.entry) term.now }
@@ -89,7 +98,7 @@ fn part_in(name: Option<&Name>, term: &TermText) -> u64
 }
 
 // The number with its sign.
-fn signed(sign: Sign, number: u64) -> i128
+fn signed_number(sign: Sign, number: u64) -> i128
     ensures value { result ≡ signed sign number }
     ensures size { unsigned_abs result ≡ number }
 {
@@ -99,7 +108,8 @@ fn signed(sign: Sign, number: u64) -> i128
     }
 }
 
-// What the terms are to the field with this name, or to the constant.
+// What the terms with their signs add to the factor of the field with this name, or to the constant where
+// no name is given.
 fn parts_added(name: Option<&Name>, terms: &[SignedTerm]) -> i128
     requires { list_any (λ t. is_large_term t.term) terms.now ≡ false }
     ensures value { result ≡ parts_added (option_map (λ n. n.now) name.entry) terms.now }
@@ -107,24 +117,27 @@ fn parts_added(name: Option<&Name>, terms: &[SignedTerm]) -> i128
 {
     let mut total = 0;
     for term in terms {
-        total += signed(term.sign, part_in(name, &term.term));
+        total += signed_number(term.sign, part_in(name, &term.term));
     }
     total
 }
 
-// What all terms of a sum are to the field with this name, or to the constant.
+// What all terms of a sum add to the factor of the field with this name, or to the constant where no name
+// is given. A sum without a sign in front begins with a plus. It has fewer than 2^64 terms of at most
+// 10^15, so the total stays in range.
 fn sum_added(name: Option<&Name>, sum: &SumText) -> i128
     requires { is_large_sum sum.now ≡ false }
     ensures value { result ≡ parts_added (option_map (λ n. n.now) name.entry) (terms_of sum.now) }
     ensures size { unsigned_abs result ≤ 10 ^ 15 + 10 ^ 15 * 2 ^ 64 }
 {
     let sign = sum.sign.unwrap_or(Sign::Plus);
-    let first = signed(sign, part_in(name, &sum.first));
+    let first = signed_number(sign, part_in(name, &sum.first));
     let rest = parts_added(name, sum.rest.as_slice());
     first + rest
 }
 
-// What the left side without the right is to the field with this name, or to the constant.
+// What the left side adds to the factor of the field with this `name`, less what the right side adds to
+// it. Where no name is given, the same of the constant.
 fn parts_moved(name: Option<&Name>, left: &SumText, right: &SumText) -> i128
     requires left { is_large_sum left.now ≡ false }
     requires right { is_large_sum right.now ≡ false }
@@ -134,7 +147,7 @@ fn parts_moved(name: Option<&Name>, left: &SumText, right: &SumText) -> i128
     sum_added(name, left) - taken
 }
 
-// The factor of the field with this name, moved to the left side.
+// The factor of the field with this `name` on the left side, less that on the right side.
 fn moved_factor(left: &SumText, right: &SumText, name: &Name) -> i128
     requires left { is_large_sum left.now ≡ false }
     requires right { is_large_sum right.now ≡ false }
@@ -143,7 +156,7 @@ fn moved_factor(left: &SumText, right: &SumText, name: &Name) -> i128
     parts_moved(Some(name), left, right)
 }
 
-// The constant, moved to the left side.
+// The constant of the left side, less that of the right side.
 fn moved_constant(left: &SumText, right: &SumText) -> i128
     requires left { is_large_sum left.now ≡ false }
     requires right { is_large_sum right.now ≡ false }
@@ -152,7 +165,7 @@ fn moved_constant(left: &SumText, right: &SumText) -> i128
     parts_moved(None, left, right)
 }
 
-// Whether the factor of the field with this name is above its limit once it is added up.
+// Whether the factor of the field with this `name` is above `MOST_FACTOR` once both sides are added up.
 fn is_large_factor(left: &SumText, right: &SumText, name: &Name) -> bool
     requires left { is_large_sum left.now ≡ false }
     requires right { is_large_sum right.now ≡ false }
@@ -161,7 +174,7 @@ fn is_large_factor(left: &SumText, right: &SumText, name: &Name) -> bool
     u128::from(MOST_FACTOR) < moved_factor(left, right, name).unsigned_abs()
 }
 
-// Whether the factor of any field is above its limit once it is added up.
+// Whether the factor of any of these fields is above `MOST_FACTOR` once both sides are added up.
 fn are_large_factors(fields: &[Field], left: &SumText, right: &SumText) -> bool
     requires left { is_large_sum left.now ≡ false }
     requires right { is_large_sum right.now ≡ false }
@@ -175,7 +188,7 @@ fn are_large_factors(fields: &[Field], left: &SumText, right: &SumText) -> bool
     false
 }
 
-// Whether the constant is above its limit once it is added up.
+// Whether the constant is above `MOST_CONSTANT` once both sides are added up.
 fn is_large_constant(left: &SumText, right: &SumText) -> bool
     requires left { is_large_sum left.now ≡ false }
     requires right { is_large_sum right.now ≡ false }
@@ -184,7 +197,9 @@ fn is_large_constant(left: &SumText, right: &SumText) -> bool
     u128::from(MOST_CONSTANT) < moved_constant(left, right).unsigned_abs()
 }
 
-/// Whether a number of the test, or a factor or the constant that is added up, is out of its limits.
+/// Whether a number of the test is out of its limits. It may stand in the test, or be a factor or the
+/// constant once both sides are added up. The numbers that stand in it are looked at first. Only where
+/// none of these is out is the rest small enough to be added up.
 pub(crate) fn are_large_sums(fields: &[Field], left: &SumText, right: &SumText) -> bool
     ensures { result ≡ are_large_sums fields.now left.now right.now }
 {
@@ -194,7 +209,7 @@ pub(crate) fn are_large_sums(fields: &[Field], left: &SumText, right: &SumText) 
         || is_large_constant(left, right)
 }
 
-// Puts the term last where its factor is not 0.
+// Adds the term of a field behind the others, unless its factor is 0: the field then drops out of the test.
 fn push_term(terms: &mut Vec<Term>, field: u32, factor: i64) -> Result<(), OutOfMemory>
     ensures { OnOk result (terms.new.items ≡ with_term terms.old.items field factor) }
 {
@@ -204,7 +219,8 @@ fn push_term(terms: &mut Vec<Term>, field: u32, factor: i64) -> Result<(), OutOf
     Ok(())
 }
 
-// The factor of the field with this name, where it is within its limit.
+// The factor of the field with this name, once both sides are added up. It is within its limit, so that it
+// fits 64 bits.
 fn small_factor(left: &SumText, right: &SumText, name: &Name) -> i64
     requires left { is_large_sum left.now ≡ false }
     requires right { is_large_sum right.now ≡ false }
@@ -214,7 +230,7 @@ fn small_factor(left: &SumText, right: &SumText, name: &Name) -> i64
     moved_factor(left, right, name) as i64
 }
 
-/// The constant, where it is within its limit.
+/// The constant, once both sides are added up. It is within its limit, so that it fits 64 bits.
 pub(crate) fn small_constant(left: &SumText, right: &SumText) -> i64
     requires left { is_large_sum left.now ≡ false }
     requires right { is_large_sum right.now ≡ false }
@@ -224,7 +240,8 @@ pub(crate) fn small_constant(left: &SumText, right: &SumText) -> i64
     moved_constant(left, right) as i64
 }
 
-/// The terms of the fields whose factor is not 0, in declared order.
+/// The terms of a linear test, in declared order, once the right side is taken off the left one. Fields
+/// whose factor is 0 have none.
 pub(crate) fn moved_terms(
     alloc: Global,
     fields: &[Field],

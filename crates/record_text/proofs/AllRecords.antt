@@ -1,5 +1,6 @@
 -- The records of a text: there are some list of them, and only one.
-use Rattle.std.proofs.Common.{◌≡◌, ◌∙◌, sym, ap, subst, refl, ℕ, zero, suc, ◌≤◌, Bool, true, false, if◌then◌else◌, List, [], ◌∷◌, ◌++◌, length, Option, Some, None, arith, append-nil}
+use Rattle.std.proofs.Common.{◌≡◌, ◌∙◌, sym, ap, subst, refl, ℕ, zero, suc, ◌≤◌, Bool, true, false, if◌then◌else◌, List, [], ◌∷◌, ◌++◌, length, Option, Some}
+use Rattle.std.proofs.Common.{None, arith, append-nil}
 use Rattle.csv.specs.Machine.{Read, ends_at_end, field_after, fields_after, is_end, next_record, step}
 use Rattle.csv.specs.Reading.{AreRecords, Reached}
 use Rattle.csv.specs.declared.parser.Config.{Config}
@@ -15,13 +16,15 @@ at_end_left true fields p e =
     rw same (omega arith)
 at_end_left false fields p e = absurd (cc e)
 
-turn_left : (b : Bool) (fields : List (List ℕ)) (t : State) (rest : List ℕ) (other : Option Read) (p : Read) → (other ≡ Some p → length p.2 ≤ length rest) → (if b then Some (fields, t, rest) else other) ≡ Some p → length p.2 ≤ length rest
+turn_left : (b : Bool) (fields : List (List ℕ)) (t : State) (rest : List ℕ) (other : Option Read) (p : Read) → (other ≡ Some p → length p.2 ≤ length rest)
+    → (if b then Some (fields, t, rest) else other) ≡ Some p → length p.2 ≤ length rest
 turn_left true fields t rest other p next e =
     let same : p ≡ (fields, t, rest) = cc in
     rw same (omega arith)
 turn_left false fields t rest other p next e = next e
 
-left_after : (cfg : Config) (s : State) (fields : List (List ℕ)) (field xs : List ℕ) (p : Read) → next_record cfg s fields field xs ≡ Some p → length p.2 ≤ length xs
+left_after : (cfg : Config) (s : State) (fields : List (List ℕ)) (field xs : List ℕ) (p : Read) → next_record cfg s fields field xs ≡ Some p
+    → length p.2 ≤ length xs
 unfolding next_record
 left_after cfg s fields field [] p e = at_end_left (ends_at_end s) (fields ++ (field ∷ [])) p e
 left_after cfg s fields field (c ∷ rest) p e =
@@ -42,7 +45,8 @@ shorter_after cfg s c rest p e =
 abbrev pub HasRecords : Config → State → List ℕ → Type 0
 HasRecords cfg s xs = (all : List (List (List ℕ))) × AreRecords cfg s xs all
 
-by_next : (cfg : Config) (s : State) (xs : List ℕ) (o : Option Read) → next_record cfg s [] [] xs ≡ o → ((p : Read) → o ≡ Some p → HasRecords cfg p.1 p.2) → HasRecords cfg s xs
+by_next : (cfg : Config) (s : State) (xs : List ℕ) (o : Option Read) → next_record cfg s [] [] xs ≡ o → ((p : Read) → o ≡ Some p → HasRecords cfg p.1 p.2)
+    → HasRecords cfg s xs
 unfolding Reached
 by_next cfg s xs None e later = ([], (s, xs, (refl, refl), e))
 by_next cfg s xs (Some p) e later =
@@ -83,7 +87,8 @@ records_follow cfg s t xs ys (d ∷ done) [] reached records =
 records_follow cfg s t xs ys (d ∷ done) (a ∷ all) reached records =
     let same : records.2.0 ≡ reached.0 = cc (records.2.1, reached.1) in
     let first : a ≡ d = records.2.2 ∙ ap (λ (p : Read). p.0) same ∙ sym reached.2 in
-    let later : AreRecords cfg reached.0.1 reached.0.2 all = subst (λ (p : Read). AreRecords cfg p.1 p.2 all) same (records.0, records.1, records.2.3, records.3) in
+    let later : AreRecords cfg reached.0.1 reached.0.2 all =
+    subst (λ (p : Read). AreRecords cfg p.1 p.2 all) same (records.0, records.1, records.2.3, records.3) in
     let (rest, more, after) = records_follow cfg reached.0.1 t reached.0.2 ys done all reached.3 later in
     (rest, ap (λ (r : List (List ℕ)). r ∷ all) first ∙ ap (λ (rs : List (List (List ℕ))). d ∷ rs) more, after)
 
@@ -99,7 +104,8 @@ same_records cfg s xs a b (t, ys, reached, none) records =
     none_left (r ∷ rest) all after = cc (none, after.2.1)
 
 -- records that were reached, followed by those from there on, are all records
-pub records_joined : (cfg : Config) (s t : State) (xs ys : List ℕ) (done rest : List (List (List ℕ))) → Reached cfg s xs done t ys → AreRecords cfg t ys rest → AreRecords cfg s xs (done ++ rest)
+pub records_joined : (cfg : Config) (s t : State) (xs ys : List ℕ) (done rest : List (List (List ℕ))) → Reached cfg s xs done t ys → AreRecords cfg t ys rest
+    → AreRecords cfg s xs (done ++ rest)
 unfolding Reached
 records_joined cfg s t xs ys [] rest reached records = rw (reached.0, reached.1) records
 records_joined cfg s t xs ys (d ∷ done) rest (p, next, same, reached) records =

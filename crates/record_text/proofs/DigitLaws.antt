@@ -13,7 +13,8 @@ number_small ds i h le =
     omega (arith, digits_value-lt 10 (take i ds) h, pow-le-pow_right {n = 10} (omega arith) len)
 
 -- one digit more
-pub number_more : (ds : List ℕ) (n i d : ℕ) → i < length ds → n ≡ digits_value 10 (take i ds) → AllDigits 10 (take i ds) → IsAsciiDigit (get_or ds i 0) → d ≡ get_or ds i 0 - 48
+pub number_more : (ds : List ℕ) (n i d : ℕ) → i < length ds → n ≡ digits_value 10 (take i ds) → AllDigits 10 (take i ds) → IsAsciiDigit (get_or ds i 0)
+    → d ≡ get_or ds i 0 - 48
     → (n * 10 + d ≡ digits_value 10 (take (i + 1) ds)) × AllDigits 10 (take (i + 1) ds)
 number_more ds n i d lt e h digit same =
     let v = digit_value_digit (get_or ds i 0) digit in

@@ -17,13 +17,15 @@ at_end act.EndField fields field e = absurd (cc)
 at_end act.Skip fields field e = absurd (cc)
 at_end act.Copy fields field e = absurd (cc)
 
-last : (b : Bool) (fields : List (List ℕ)) (field : List ℕ) (p : Read) → (if b then Some (fields ++ (field ∷ []), st.StartRecord, []) else None) ≡ Some p → 1 ≤ length p.0
+last : (b : Bool) (fields : List (List ℕ)) (field : List ℕ) (p : Read) → (if b then Some (fields ++ (field ∷ []), st.StartRecord, []) else None) ≡ Some p
+    → 1 ≤ length p.0
 last true fields field p e =
     let same : p ≡ (fields ++ (field ∷ []), st.StartRecord, []) = cc in
     rw same (with_last fields field)
 last false fields field p e = absurd (cc)
 
-turn : (a : Action) (b : Bool) (fields : List (List ℕ)) (field : List ℕ) (t : State) (rest : List ℕ) (other : Option Read) (p : Read) → is_end a ≡ b → (other ≡ Some p → 1 ≤ length p.0) → (if b then Some (fields_after a fields field, t, rest) else other) ≡ Some p → 1 ≤ length p.0
+turn : (a : Action) (b : Bool) (fields : List (List ℕ)) (field : List ℕ) (t : State) (rest : List ℕ) (other : Option Read) (p : Read) → is_end a ≡ b
+    → (other ≡ Some p → 1 ≤ length p.0) → (if b then Some (fields_after a fields field, t, rest) else other) ≡ Some p → 1 ≤ length p.0
 turn a true fields field t rest other p e next h =
     let same : p ≡ (fields_after a fields field, t, rest) = cc in
     rw same (at_end a fields field e)
@@ -38,6 +40,7 @@ has_field cfg s fields field (c ∷ rest) p e =
     (has_field cfg (step cfg s c).0 (fields_after (step cfg s c).1 fields field) (field_after (step cfg s c).1 c field) rest p) e
 
 -- the first of a text's records has at least one text
-pub first_has_field : (cfg : Config) (s : State) (xs : List ℕ) (first : List (List ℕ)) (rest : List (List (List ℕ))) → AreRecords cfg s xs (first ∷ rest) → 1 ≤ length first
+pub first_has_field : (cfg : Config) (s : State) (xs : List ℕ) (first : List (List ℕ)) (rest : List (List (List ℕ))) → AreRecords cfg s xs (first ∷ rest)
+    → 1 ≤ length first
 unfolding Reached
 first_has_field cfg s xs first rest (t, ys, (p, found, same, further), ended) = rw same (has_field cfg s [] [] xs p found)

@@ -6,7 +6,8 @@ use Rattle.record_text.specs.Trimming.{header_of, without_marks}
 use Rattle.record_text.proofs.RecordLaws.{copied_more, field_past}
 
 -- one text of the header more, and all of them
-pub header_more : (texts done : List (List ℕ)) (x y : List ℕ) (i j : ℕ) → done ≡ header_of (take i texts) → Some x ≡ field_at texts i → y ≡ (if length done == 0 then without_marks x else x) → j ≡ i + 1
+pub header_more : (texts done : List (List ℕ)) (x y : List ℕ) (i j : ℕ) → done ≡ header_of (take i texts) → Some x ≡ field_at texts i
+    → y ≡ (if length done == 0 then without_marks x else x) → j ≡ i + 1
     → done ++ y ∷ [] ≡ header_of (take j texts)
 unfolding field_at
 header_more [] done x y i j e at shown next = cc at

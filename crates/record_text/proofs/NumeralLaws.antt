@@ -1,4 +1,5 @@
-use Rattle.std.proofs.Common.{◌≡◌, ◌≢◌, ◌∙◌, ap, inl, inr, ℕ, zero, suc, ◌+◌, ◌*◌, ◌-◌, ◌^◌, ◌<◌, ◌≤◌, List, [], ◌∷◌, ◌++◌, length, take, drop, get_or, Option, Some, None, refl, arith, true, false, position, nat_lt, add-one}
+use Rattle.std.proofs.Common.{◌≡◌, ◌≢◌, ◌∙◌, ap, inl, inr, ℕ, zero, suc, ◌+◌, ◌*◌, ◌-◌, ◌^◌, ◌<◌, ◌≤◌, List, [], ◌∷◌, ◌++◌, length, take, drop, get_or, Option}
+use Rattle.std.proofs.Common.{Some, None, refl, arith, true, false, position, nat_lt, add-one}
 use Rattle.std.specs.Option.{IfNone, IfSome}
 use Rattle.std.specs.List.{position_or_len}
 use Rattle.std.proofs.Math.Nat.{pow-le-pow_right}
@@ -30,7 +31,8 @@ below_product p q r m n few rest most =
     omega arith
 
 -- the numerator of a decimal stays below 10 ^ 21, and its denominator is at most 10 ^ 6
-pub decimal_below : (whole decimals : List ℕ) (p q r : ℕ) → AreDigits 15 whole → AreDigits 6 decimals → p ≡ digits_value 10 whole → q ≡ 10 ^ length decimals → r ≡ digits_value 10 decimals
+pub decimal_below : (whole decimals : List ℕ) (p q r : ℕ) → AreDigits 15 whole → AreDigits 6 decimals → p ≡ digits_value 10 whole → q ≡ 10 ^ length decimals
+    → r ≡ digits_value 10 decimals
     → (p * q + r < 10 ^ 21) × (1 ≤ q) × (q ≤ 1000000)
 decimal_below whole decimals p q r before behind p-is q-is r-is =
     let p-below : p < 10 ^ 15 = rw p-is (digits_below 15 whole before) in
@@ -66,10 +68,12 @@ within (d ∷ front) rest m = omega (arith, within front rest m)
 
 mark_position : (front rest : List ℕ) (m : ℕ) → AllDigits 10 front → is_mark m ≡ true → position is_mark (front ++ m ∷ rest) ≡ Some (length front)
 mark_position front rest m digits mark =
-    let tested : nat_lt (length front) (length (front ++ m ∷ rest)) ≡ true = (Decides-ltb (length front) (length (front ++ m ∷ rest))).1 (within front rest m) in
+    let tested : nat_lt (length front) (length (front ++ m ∷ rest)) ≡ true = (Decides-ltb (length front) (length (front ++ m ∷ rest))).1
+    (within front rest m) in
     rw (marked_at front rest m digits mark) (rw tested refl)
 
-cut_at : (front rest : List ℕ) (m : ℕ) → (take (length front) (front ++ m ∷ rest) ≡ front) × (get_or (front ++ m ∷ rest) (length front) 0 ≡ m) × (drop (suc (length front)) (front ++ m ∷ rest) ≡ rest)
+cut_at : (front rest : List ℕ) (m : ℕ) → (take (length front) (front ++ m ∷ rest) ≡ front) × (get_or (front ++ m ∷ rest) (length front) 0 ≡ m)
+    × (drop (suc (length front)) (front ++ m ∷ rest) ≡ rest)
 cut_at [] rest m = (refl, refl, refl)
 cut_at (d ∷ front) rest m = let all = cut_at front rest m in (ap (λ (ds : List ℕ). d ∷ ds) all.0, all.1, all.2)
 
@@ -79,7 +83,8 @@ pub record IsCutAt (text : List ℕ) (place : ℕ) (front : List ℕ) (m : ℕ) 
   pub mark_is : get_or text place 0 ≡ m
   pub rest_is : drop (suc place) text ≡ rest
 
-cut_by_mark : (text front rest : List ℕ) (m place : ℕ) → text ≡ front ++ m ∷ rest → AllDigits 10 front → is_mark m ≡ true → position is_mark text ≡ Some place → IsCutAt text place front m rest
+cut_by_mark : (text front rest : List ℕ) (m place : ℕ) → text ≡ front ++ m ∷ rest → AllDigits 10 front → is_mark m ≡ true → position is_mark text ≡ Some place
+    → IsCutAt text place front m rest
 cut_by_mark text front rest m place split digits mark at =
     let there : position is_mark text ≡ Some (length front) = rw split (mark_position front rest m digits mark) in
     let here : place ≡ length front = cc (at, there) in
@@ -108,7 +113,8 @@ digits_alone text p q none (inr (inr (above, below, split, d))) =
     absurd (cc (none, there))
 
 -- with a point first it is a decimal, and with a stroke first a quotient
-pub with_point : (text : List ℕ) (p q place : ℕ) → position is_mark text ≡ Some place → get_or text place 0 ≡ 46 → IsUnsigned text p q → SpellsDecimal (take place text) (drop (suc place) text) p q
+pub with_point : (text : List ℕ) (p q place : ℕ) → position is_mark text ≡ Some place → get_or text place 0 ≡ 46 → IsUnsigned text p q
+    → SpellsDecimal (take place text) (drop (suc place) text) p q
 with_point text p q place at point (inl d) = absurd (not_all_digits text place at d.whole_digits.0)
 with_point text p q place at point (inr (inl (whole, decimals, split, d))) =
     let cut = cut_by_mark text whole decimals 46 place split d.whole_digits.0 refl at in
@@ -118,7 +124,8 @@ with_point text p q place at point (inr (inr (above, below, split, d))) =
     let other = cut.mark_is in
     absurd (omega arith)
 
-pub with_stroke : (text : List ℕ) (p q place : ℕ) → position is_mark text ≡ Some place → get_or text place 0 ≢ 46 → IsUnsigned text p q → SpellsQuotient (take place text) (drop (suc place) text) p q
+pub with_stroke : (text : List ℕ) (p q place : ℕ) → position is_mark text ≡ Some place → get_or text place 0 ≢ 46 → IsUnsigned text p q
+    → SpellsQuotient (take place text) (drop (suc place) text) p q
 with_stroke text p q place at stroke (inl d) = absurd (not_all_digits text place at d.whole_digits.0)
 with_stroke text p q place at stroke (inr (inl (whole, decimals, split, d))) =
     let cut = cut_by_mark text whole decimals 46 place split d.whole_digits.0 refl at in
@@ -133,12 +140,14 @@ rejoined (b ∷ text) zero lt = refl
 rejoined (b ∷ text) (suc place) lt = ap (λ (bs : List ℕ). b ∷ bs) (rejoined text place (omega arith))
 
 -- a quotient around the first mark, which is no point, is a numeral
-pub quotient_around : (text : List ℕ) (p q place : ℕ) → position is_mark text ≡ Some place → get_or text place 0 ≢ 46 → SpellsQuotient (take place text) (drop (suc place) text) p q → IsUnsigned text p q
+pub quotient_around : (text : List ℕ) (p q place : ℕ) → position is_mark text ≡ Some place → get_or text place 0 ≢ 46
+    → SpellsQuotient (take place text) (drop (suc place) text) p q → IsUnsigned text p q
 quotient_around text p q place at other d =
     let found = position-Some is_mark text place 0 at in
     let mark = found.1 in
     let stroke : get_or text place 0 ≡ 47 = grind (arith, nat_tests) in
-    let split : text ≡ take place text ++ 47 ∷ drop (suc place) text = rejoined text place found.0 ∙ ap (λ (b : ℕ). take place text ++ b ∷ drop (suc place) text) stroke in
+    let split : text ≡ take place text ++ 47 ∷ drop (suc place) text = rejoined text place found.0
+    ∙ ap (λ (b : ℕ). take place text ++ b ∷ drop (suc place) text) stroke in
     inr (inr (take place text, drop (suc place) text, split, d))
 
 -- ---- claims on an answer

@@ -1,4 +1,5 @@
-use Rattle.std.proofs.Common.{◌≡◌, ℕ, ◌*◌, ◌<◌, ◌≤◌, ◌^◌, Bool, true, false, if◌then◌else◌, List, [], ◌∷◌, pos, unsigned_abs, refl, sym, ap, ◌∙◌, subst, Result, Ok, Err, arith}
+use Rattle.std.proofs.Common.{◌≡◌, ℕ, ◌*◌, ◌<◌, ◌≤◌, ◌^◌, Bool, true, false, if◌then◌else◌, List, [], ◌∷◌, pos, unsigned_abs, refl, sym, ap, ◌∙◌, subst, Result}
+use Rattle.std.proofs.Common.{Ok, Err, arith}
 use lib.IntN.{neg_ℤ}
 use Rattle.std.specs.Int.{IsGcd, ◌∣◌}
 use Rattle.std.specs.List.{AllByRecursion}
@@ -9,7 +10,7 @@ use Rattle.std.proofs.lemmas.Nat.Gcd.{IsGcd-swap, le_of_dvd}
 use Rattle.fraction128.proofs.DivisorLaws.{unsigned_abs-above}
 use Rattle.fraction128.proofs.LowestLaws.{coprime-divides}
 use Rattle.fraction128.specs.declared.fraction.Fraction.{Fraction}
-use Rattle.edit_model.specs.PlainNumbers.{HasPlain, IsPlain, IsPlainValue}
+use Rattle.edit_model.specs.PlainNumbers.{HasPlainNumbers, IsPlain, IsPlainValue}
 use Rattle.edit_model.specs.declared.field.Field.{Field}
 use Rattle.edit_model.specs.declared.field.Kind.{Kind}
 use Rattle.edit_model.specs.declared.field.Kind.TheVariants as kind
@@ -44,9 +45,11 @@ pub numeral_plain : (text : List ℕ) (x : Fraction) → IsNumeral text x → Is
 numeral_plain text x n =
     let bounds = unsigned_below (without_sign text) n.numerator n.denominator n.spelled in
     let sizes : unsigned_abs x.numerator * n.denominator ≡ n.numerator * unsigned_abs x.denominator =
-    sym (unsigned_abs-mul x.numerator (pos n.denominator)) ∙ ap unsigned_abs n.value ∙ unsigned_abs-mul (if has_minus text then neg_ℤ (pos n.numerator) else pos n.numerator) x.denominator
+    sym (unsigned_abs-mul x.numerator (pos n.denominator)) ∙ ap unsigned_abs n.value
+    ∙ unsigned_abs-mul (if has_minus text then neg_ℤ (pos n.numerator) else pos n.numerator) x.denominator
     ∙ ap (λ m. m * unsigned_abs x.denominator) (signed_size (has_minus text) n.numerator) in
-    let few = lowest_few (unsigned_abs x.numerator) (unsigned_abs x.denominator) n.numerator n.denominator x.reduced (unsigned_abs-above x.denominator x.positive) bounds.1 sizes in
+    let few = lowest_few (unsigned_abs x.numerator) (unsigned_abs x.denominator) n.numerator n.denominator x.reduced
+    (unsigned_abs-above x.denominator x.positive) bounds.1 sizes in
     (below (unsigned_abs x.numerator) n.numerator few.0 bounds.0, most (unsigned_abs x.denominator) n.denominator few.1 bounds.2)
   where
     below : (a n : ℕ) → a ≤ n → n < 10 ^ 21 → a < 10 ^ 21
@@ -61,7 +64,8 @@ value_plain (kind.Code codes) text (Number x) is = absurd is
 value_plain k text (Code c) is = tt
 value_plain k text Bad is = tt
 
-values_plain : (fields : List Field) (columns : List ℕ) (raw : List (List ℕ)) (values : List Value) → AreValues fields columns raw values → HasPlain values
+values_plain : (fields : List Field) (columns : List ℕ) (raw : List (List ℕ)) (values : List Value) → AreValues fields columns raw values
+    → HasPlainNumbers values
 values_plain [] [] raw [] are = tt
 values_plain [] [] raw (v ∷ values) are = absurd are
 values_plain [] (column ∷ columns) raw values are = absurd are
@@ -70,12 +74,14 @@ values_plain (field ∷ fields) (column ∷ columns) raw [] are = absurd are
 values_plain (field ∷ fields) (column ∷ columns) raw (v ∷ values) are = (value_plain field.kind _ v are.0, values_plain fields columns raw values are.1)
 
 -- the numbers of a sheet are plain
-pub rows_plain : (fields : List Field) (columns : List ℕ) (row_texts : List (List (List ℕ))) (rows : List (List Value)) → AreRows fields columns row_texts rows → AllByRecursion HasPlain rows
+pub rows_plain : (fields : List Field) (columns : List ℕ) (row_texts : List (List (List ℕ))) (rows : List (List Value)) → AreRows fields columns row_texts rows
+    → AllByRecursion HasPlainNumbers rows
 rows_plain fields columns [] [] are = tt
 rows_plain fields columns [] (row ∷ rows) are = absurd are
 rows_plain fields columns (raw ∷ row_texts) [] are = absurd are
 rows_plain fields columns (raw ∷ row_texts) (row ∷ rows) are = (values_plain fields columns raw row are.0, rows_plain fields columns row_texts rows are.1)
 
-pub plain_by_sheet : (fields : List Field) (bytes : List ℕ) (r : Result SheetParts SheetFault) → IfOk r (λ sheet. IsSheet fields bytes sheet) → IfOk r (λ sheet. AllByRecursion HasPlain sheet.rows)
+pub plain_by_sheet : (fields : List Field) (bytes : List ℕ) (r : Result SheetParts SheetFault) → IfOk r (λ sheet. IsSheet fields bytes sheet)
+    → IfOk r (λ sheet. AllByRecursion HasPlainNumbers sheet.rows)
 plain_by_sheet fields bytes (Ok sheet) is = rows_plain fields sheet.columns sheet.row_texts sheet.rows is.values
 plain_by_sheet fields bytes (Err e) is = tt

@@ -9,7 +9,8 @@ pub text_there : (r : Option (Bor (List ℕ))) (texts : List (List ℕ)) (i : �
 text_there None texts i e lt = absurd (field-there texts i lt (sym e))
 text_there (Some s) texts i e lt = refl
 
-pub text_is : (s : Bor (List ℕ)) (r : Option (Bor (List ℕ))) (texts : List (List ℕ)) (i : ℕ) → option_map (λ s. s.now) r ≡ field_at texts i → r ≡ Some s → s.now ≡ get_or texts i []
+pub text_is : (s : Bor (List ℕ)) (r : Option (Bor (List ℕ))) (texts : List (List ℕ)) (i : ℕ) → option_map (λ s. s.now) r ≡ field_at texts i → r ≡ Some s
+    → s.now ≡ get_or texts i []
 text_is s r texts i e is = sym (field-get texts i s.now (sym e ∙ ap (option_map (λ (t : Bor (List ℕ)). t.now)) is))
 
 -- a place where there is a text, and one where there is none
@@ -31,7 +32,8 @@ pub copied_more : (texts done : List (List ℕ)) (x : List ℕ) (i j : ℕ) → 
 copied_more texts done x i j e at next =
     let here = field_within texts i x at in
     let x-is : get_or texts i [] ≡ x = field-get texts i x (sym at) in
-    ap (λ (ts : List (List ℕ)). ts ++ x ∷ []) e ∙ ap (λ (t : List ℕ). take i texts ++ t ∷ []) (sym x-is) ∙ sym (take_more texts i [] here) ∙ ap (λ (k : ℕ). take k texts) (sym next)
+    ap (λ (ts : List (List ℕ)). ts ++ x ∷ []) e ∙ ap (λ (t : List ℕ). take i texts ++ t ∷ []) (sym x-is) ∙ sym (take_more texts i [] here)
+    ∙ ap (λ (k : ℕ). take k texts) (sym next)
 
 pub copied_all : (texts done : List (List ℕ)) (i : ℕ) → done ≡ take i texts → None ≡ field_at texts i → done ≡ texts
 copied_all texts done i e at = e ∙ take_all i texts (field_past texts i at)

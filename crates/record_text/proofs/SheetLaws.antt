@@ -34,20 +34,23 @@ same_sheet_fault fields bytes a b is other =
     cc (found, other.found)
 
 -- bytes with a fault have no sheet
-pub sheet_excludes_fault : (fields : List Field) (bytes : List ℕ) (sheet : SheetParts) (fault : SheetFault) → IsSheet fields bytes sheet → ¬ IsSheetFault fields bytes fault
+pub sheet_excludes_fault : (fields : List Field) (bytes : List ℕ) (sheet : SheetParts) (fault : SheetFault) → IsSheet fields bytes sheet
+    → ¬ IsSheetFault fields bytes fault
 sheet_excludes_fault fields bytes sheet fault is other =
     let records = records_of bytes (is.first ∷ sheet.row_texts) other.records is.given other.given in
     let found : sheet_fault fields (is.first ∷ sheet.row_texts) ≡ Some fault = ap (sheet_fault fields) (sym records) ∙ other.found in
     cc (found, is.faultless)
 
 -- so where a fault is answered there is no sheet
-pub unread_by_fault : {T : Type 0} (fields : List Field) (bytes : List ℕ) (r : Result T SheetFault) → IfErr r (λ e. e ≢ OutOfMemory → IsSheetFault fields bytes e)
+pub unread_by_fault : {T : Type 0} (fields : List Field) (bytes : List ℕ) (r : Result T SheetFault)
+    → IfErr r (λ e. e ≢ OutOfMemory → IsSheetFault fields bytes e)
     → IfErr r (λ e. e ≢ OutOfMemory → (sheet : SheetParts) → ¬ IsSheet fields bytes sheet)
 unread_by_fault fields bytes (Ok t) found = tt
 unread_by_fault fields bytes (Err e) found = λ other sheet is. sheet_excludes_fault fields bytes sheet e is (found other)
 
 -- bytes have one sheet: one header, and the same columns, texts and values
-pub same_sheet : (fields : List Field) (bytes : List ℕ) (a b : SheetParts) → IsSheet fields bytes a → IsSheet fields bytes b → (a.header ≡ b.header) × (a.columns ≡ b.columns) × (a.row_texts ≡ b.row_texts) × (a.rows ≡ b.rows)
+pub same_sheet : (fields : List Field) (bytes : List ℕ) (a b : SheetParts) → IsSheet fields bytes a → IsSheet fields bytes b
+    → (a.header ≡ b.header) × (a.columns ≡ b.columns) × (a.row_texts ≡ b.row_texts) × (a.rows ≡ b.rows)
 same_sheet fields bytes a b is other =
     let records = records_of bytes (other.first ∷ b.row_texts) (is.first ∷ a.row_texts) other.given is.given in
     let first : is.first ≡ other.first = cc records in
@@ -64,12 +67,15 @@ same_parts a b header columns row_texts rows =
     ∙ ap (λ (ts : List (List (List ℕ))). record { header = b.header; columns = b.columns; row_texts = ts; rows = a.rows }) row_texts
     ∙ ap (λ (vs : List (List Value)). record { header = b.header; columns = b.columns; row_texts = b.row_texts; rows = vs }) rows
 
-pub only_by_sheet : (fields : List Field) (bytes : List ℕ) (r : Result SheetParts SheetFault) → IfOk r (λ sheet. IsSheet fields bytes sheet) → IfOk r (λ sheet. (other : SheetParts) → IsSheet fields bytes other → other ≡ sheet)
-only_by_sheet fields bytes (Ok sheet) is = λ other also. let (header, columns, row_texts, rows) = same_sheet fields bytes other sheet also is in same_parts other sheet header columns row_texts rows
+pub only_by_sheet : (fields : List Field) (bytes : List ℕ) (r : Result SheetParts SheetFault) → IfOk r (λ sheet. IsSheet fields bytes sheet)
+    → IfOk r (λ sheet. (other : SheetParts) → IsSheet fields bytes other → other ≡ sheet)
+only_by_sheet fields bytes (Ok sheet) is = λ other also. let (header, columns, row_texts, rows) = same_sheet fields bytes other sheet also is in
+    same_parts other sheet header columns row_texts rows
 only_by_sheet fields bytes (Err e) is = tt
 
 -- and so is the fault
-pub first_by_fault : {T : Type 0} (fields : List Field) (bytes : List ℕ) (r : Result T SheetFault) → IfErr r (λ e. e ≢ OutOfMemory → IsSheetFault fields bytes e)
+pub first_by_fault : {T : Type 0} (fields : List Field) (bytes : List ℕ) (r : Result T SheetFault)
+    → IfErr r (λ e. e ≢ OutOfMemory → IsSheetFault fields bytes e)
     → IfErr r (λ e. e ≢ OutOfMemory → (other : SheetFault) → IsSheetFault fields bytes other → other ≡ e)
 first_by_fault fields bytes (Ok t) found = tt
 first_by_fault fields bytes (Err e) found = λ known other also. same_sheet_fault fields bytes other e also (found known)
@@ -88,7 +94,8 @@ module _ (fields : List Field) (bytes : List ℕ) (sheet : SheetParts) (is : IsS
 
   -- each row has as many texts as the header
   pub row_texts_as_long_as_header : AllByRecursion (λ raw. length raw ≡ length sheet.header) sheet.row_texts
-  row_texts_as_long_as_header = rw first_length (rows_equally_long 0 (length is.first) sheet.row_texts (faultless_parts fields is.first sheet.row_texts is.faultless).2)
+  row_texts_as_long_as_header = rw first_length (rows_equally_long 0 (length is.first) sheet.row_texts
+      (faultless_parts fields is.first sheet.row_texts is.faultless).2)
 
   -- there are as many texts as values of rows, at most 200,000
   pub as_many_row_texts_as_rows : length sheet.row_texts ≡ length sheet.rows

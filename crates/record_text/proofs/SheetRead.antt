@@ -15,7 +15,8 @@ use Rattle.record_text.proofs.ColumnLaws.{stand_faultless}
 use Rattle.record_text.proofs.FirstRecord.{all_records, no_records}
 
 -- bytes without a record
-pub no_header : (fields : List Field) (bytes : List ℕ) → next_record default_config st.StartRecord [] [] (strip_bom (strip_bom bytes)) ≡ None → IsSheetFault fields bytes NoHeader
+pub no_header : (fields : List Field) (bytes : List ℕ) → next_record default_config st.StartRecord [] [] (strip_bom (strip_bom bytes)) ≡ None
+    → IsSheetFault fields bytes NoHeader
 no_header fields bytes none = record { records = []; given = no_records bytes none; found = refl }
 
 -- bytes whose first record has these texts, and whose second begins there
@@ -29,10 +30,12 @@ module _ (fields : List Field) (bytes : List ℕ) (texts : List (List ℕ)) (the
   pub too_many_columns : nat_lt 256 (length texts) ≡ true → IsSheetFault fields bytes TooManyColumns
   too_many_columns many = fault_in_header TooManyColumns (λ rest. rw many refl)
 
-  pub faulty_columns : (fault : SheetFault) → nat_lt 256 (length texts) ≡ false → column_fault 0 fields (header_of texts) ≡ Some fault → IsSheetFault fields bytes fault
+  pub faulty_columns : (fault : SheetFault) → nat_lt 256 (length texts) ≡ false → column_fault 0 fields (header_of texts) ≡ Some fault
+      → IsSheetFault fields bytes fault
   faulty_columns fault few found = fault_in_header fault (λ rest. rw (few, found) refl)
 
-  pub faulty_rows : (fault : SheetFault) (columns : List ℕ) → nat_lt 256 (length texts) ≡ false → StandIn fields (header_of texts) columns → IsRowFault (length texts) there fault → IsSheetFault fields bytes fault
+  pub faulty_rows : (fault : SheetFault) (columns : List ℕ) → nat_lt 256 (length texts) ≡ false → StandIn fields (header_of texts) columns
+      → IsRowFault (length texts) there fault → IsSheetFault fields bytes fault
   faulty_rows fault columns few stand row = record {
     records = texts ∷ row.row_texts;
     given = all_records bytes texts there begins row.row_texts row.records;

@@ -39,23 +39,27 @@ same_table bytes a b is other =
     same_parts a b header rows
 
 -- so what is answered is the only answer
-pub only_by_table : (bytes : List ℕ) (r : Result TableParts TableFault) → IfOk r (λ table. IsTable bytes table) → IfOk r (λ table. (other : TableParts) → IsTable bytes other → other ≡ table)
+pub only_by_table : (bytes : List ℕ) (r : Result TableParts TableFault) → IfOk r (λ table. IsTable bytes table)
+    → IfOk r (λ table. (other : TableParts) → IsTable bytes other → other ≡ table)
 only_by_table bytes (Ok table) is = λ other also. same_table bytes other table also is
 only_by_table bytes (Err e) is = tt
 
 module _ {T : Type 0} (bytes : List ℕ) where
-  pub first_by_table_fault : (r : Result T TableFault) → IfErr r (λ e. e ≢ OutOfMemory → IsTableFault bytes e) → IfErr r (λ e. e ≢ OutOfMemory → (other : TableFault) → IsTableFault bytes other → other ≡ e)
+  pub first_by_table_fault : (r : Result T TableFault) → IfErr r (λ e. e ≢ OutOfMemory → IsTableFault bytes e)
+      → IfErr r (λ e. e ≢ OutOfMemory → (other : TableFault) → IsTableFault bytes other → other ≡ e)
   first_by_table_fault (Ok t) found = tt
   first_by_table_fault (Err e) found = λ known other also. same_table_fault bytes other e also (found known)
 
-  pub unread_by_table_fault : (r : Result T TableFault) → IfErr r (λ e. e ≢ OutOfMemory → IsTableFault bytes e) → IfErr r (λ e. e ≢ OutOfMemory → (table : TableParts) → ¬ IsTable bytes table)
+  pub unread_by_table_fault : (r : Result T TableFault) → IfErr r (λ e. e ≢ OutOfMemory → IsTableFault bytes e)
+      → IfErr r (λ e. e ≢ OutOfMemory → (table : TableParts) → ¬ IsTable bytes table)
   unread_by_table_fault (Ok t) found = tt
   unread_by_table_fault (Err e) found = λ known table is. table_excludes_fault bytes table e is (found known)
 
 -- ---- what a table is like
 
 -- each row has as many texts as the header
-pub table_rows_as_long_as_header : (bytes : List ℕ) (table : TableParts) → IsTable bytes table → AllByRecursion (λ texts. length texts ≡ length table.header) table.rows
+pub table_rows_as_long_as_header : (bytes : List ℕ) (table : TableParts) → IsTable bytes table
+    → AllByRecursion (λ texts. length texts ≡ length table.header) table.rows
 table_rows_as_long_as_header bytes table is =
     let width : length table.header ≡ length is.first = ap (λ (texts : List (List ℕ)). length texts) is.header ∙ header_length is.first in
     rw width (faultless_equally_long most_table_rows (length is.first) 0 table.rows is.faultless)

@@ -24,7 +24,8 @@ module _ (bytes : List ℕ) (texts : List (List ℕ)) (there : Place)
     found = row.found;
   }
 
-  pub table_read : (table : TableParts) → table.header ≡ header_of texts → AreRecords default_config there.state there.left table.rows → rows_fault most_table_rows (length texts) 0 table.rows ≡ None → IsTable bytes table
+  pub table_read : (table : TableParts) → table.header ≡ header_of texts → AreRecords default_config there.state there.left table.rows
+      → rows_fault most_table_rows (length texts) 0 table.rows ≡ None → IsTable bytes table
   table_read table header records faultless = record {
     first = texts;
     given = all_records bytes texts there begins table.rows records;

@@ -15,4 +15,5 @@ records_text_more (r ∷ rows) (suc i) texts lt e =
 pub records_text-append : (first second : List (List (List ℕ))) → records_text (first ++ second) ≡ records_text first ++ records_text second
 records_text-append [] second = refl
 records_text-append (texts ∷ first) second =
-    ap (λ (bs : List ℕ). row_text default_writer texts ++ bs) (records_text-append first second) ∙ sym (append_assoc (row_text default_writer texts) (records_text first) (records_text second))
+    ap (λ (bs : List ℕ). row_text default_writer texts ++ bs) (records_text-append first second)
+    ∙ sym (append_assoc (row_text default_writer texts) (records_text first) (records_text second))

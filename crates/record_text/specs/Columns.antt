@@ -1,3 +1,4 @@
+-- In which columns of a header names stand, as those of fields.
 use Rattle.std.specs.Prelude.{◌≡◌, ◌≢◌, ℕ, suc, if◌then◌else◌, List, [], ◌∷◌, Option, MatchOption}
 use Rattle.std.specs.Str.{bytes_eq}
 use Rattle.edit_model.specs.declared.field.Field.{Field}

@@ -1,3 +1,4 @@
+-- What is wrong with the records of a file: the first fault in the order in which faults are looked for.
 use Rattle.std.specs.Prelude.{ℕ, suc, ◌==◌, nat_lt, if◌then◌else◌, List, [], ◌∷◌, length, Option, Some, None}
 use Rattle.std.specs.Option.{option_or}
 use Rattle.foundation.specs.Limits.{most_columns, most_records}
@@ -5,7 +6,8 @@ use Rattle.edit_model.specs.declared.field.Field.{Field}
 use Rattle.record_text.specs.Columns.{columns_of}
 use Rattle.record_text.specs.Trimming.{header_of}
 use Rattle.record_text.specs.declared.fault.SheetFault.{SheetFault}
-use Rattle.record_text.specs.declared.fault.SheetFault.TheVariants.{NoHeader, TooManyColumns, NoColumn, DoubleColumn, TooManyRows, RowLength}
+use Rattle.record_text.specs.declared.fault.SheetFault.TheVariants.{NoHeader, TooManyColumns, NoColumn, DoubleColumn, TooManyRows}
+use Rattle.record_text.specs.declared.fault.SheetFault.TheVariants.{RowLength}
 
 -- what is wrong where a field stands in these columns: it has to stand in one
 abbrev pub field_fault : ℕ → List ℕ → Option SheetFault

@@ -1,7 +1,9 @@
+-- What is printed of faults.
 use Rattle.std.specs.Prelude.{ℕ, ◌+◌, ◌++◌, List, codes}
 use Rattle.std.specs.Fmt.{decimal}
 use Rattle.record_text.specs.declared.fault.SheetFault.{SheetFault}
-use Rattle.record_text.specs.declared.fault.SheetFault.TheVariants.{NoHeader, TooManyColumns, NoColumn, DoubleColumn, TooManyRows, RowLength, OutOfMemory}
+use Rattle.record_text.specs.declared.fault.SheetFault.TheVariants.{NoHeader, TooManyColumns, NoColumn, DoubleColumn, TooManyRows}
+use Rattle.record_text.specs.declared.fault.SheetFault.TheVariants.{RowLength, OutOfMemory}
 use Rattle.record_text.specs.declared.table_fault.TableFault.{TableFault}
 use Rattle.record_text.specs.declared.table_fault.TableFault.TheVariants as table
 

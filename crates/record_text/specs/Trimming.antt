@@ -1,3 +1,4 @@
+-- What is taken off texts: blanks at their ends, and byte order marks at their front.
 use Rattle.std.specs.Prelude.{ℕ, ◌==◌, ◌||◌, Bool, if◌then◌else◌, List, [], ◌∷◌}
 use Rattle.std.specs.List.{list_all}
 use Rattle.csv.specs.Reading.{is_bom}

@@ -1,3 +1,4 @@
+-- Which values the texts of rows stand for.
 use Rattle.std.specs.Prelude.{◌≡◌, ℕ, List, [], ◌∷◌, Option, Some, None, position, slice_index_or}
 use Rattle.std.specs.Str.{bytes_eq}
 use Rattle.edit_model.specs.declared.field.Field.{Field}

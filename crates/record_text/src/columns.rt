@@ -1,3 +1,8 @@
+//! The columns in which the fields of a survey stand: those whose header text, without blanks at its ends,
+//! is the field's name. Columns are numbered from 0.
+//!
+//! In contracts, `columns_of` lists the columns in which a name stands. `StandIn` says that each field
+//! stands in the given column alone.
 ghost use Rattle.std.specs.Prelude.{◌≡◌, ◌≢◌, ◌≤◌, ◌+◌, ◌∷◌, [], IfErr, IfOk, IfSome, ◌<◌, MatchOption, Some, drop, length};
 ghost use Rattle.record_text.specs.Columns.{IsOneColumn, StandIn, columns_from, columns_of};
 ghost use Rattle.record_text.specs.Faults.{column_fault, field_fault};
@@ -12,8 +17,9 @@ use std::alloc::Global;
 /// The most columns that a header has.
 pub(crate) const MOST_COLUMNS: usize = 256;
 
-/// The column of each field, in declared order: the one whose header text is the field's name. The fault
-/// is that of the first field that stands in other than one.
+/// The column of each field, in declared order. `header` has at most 256 texts. The fault is that of the
+/// first field that stands in no column (`NoColumn`) or in several (`DoubleColumn`). Else memory was
+/// refused.
 pub(crate) fn find_columns(
     alloc: Global,
     fields: &[Field],
@@ -32,7 +38,8 @@ pub(crate) fn find_columns(
     Ok(columns)
 }
 
-/// The one column of the field of this number and name.
+/// The one column in which the field stands, of the number `field` and the name `name`. `NoColumn` where
+/// it stands in none, `DoubleColumn` where it stands in several.
 fn find_column(field: u32, name: &[u8], header: &Texts) -> Result<u32, SheetFault>
     requires { length header.now ≤ 256 }
     ensures column { IfOk result (λ column. columns_of name.now header.now ≡ column ∷ []) }
@@ -47,7 +54,9 @@ fn find_column(field: u32, name: &[u8], header: &Texts) -> Result<u32, SheetFaul
     Ok(column as u32)
 }
 
-/// The one column whose text is the name. None where there is none, or several. No memory.
+/// The one column whose text, without blanks at its ends, is `name`. None where there is none, or several.
+/// As `find_column`, for names that are no field's, such as a panel's key. In the contract, `IsOneColumn`
+/// says so. No memory.
 pub(crate) fn one_column(name: &[u8], header: &Texts) -> Option<u32>
     requires { length header.now ≤ 256 }
     ensures { IsOneColumn name.now header.now result }
@@ -61,7 +70,8 @@ pub(crate) fn one_column(name: &[u8], header: &Texts) -> Option<u32>
     Some(column as u32)
 }
 
-/// The first column, from this number on, whose text is the name.
+/// The first column from number `from` on in which the name stands, or None where none from there on has
+/// it. In the contract, `IsNextColumn` says so.
 fn next_column(from: usize, name: &[u8], header: &Texts) -> Option<usize>
     requires { from ≤ length header.now }
     ensures within { IfSome result (λ column. column < length header.now) }

@@ -1,9 +1,10 @@
+//! Why a record file was not read, and the words that are printed for it.
 use foundation::OutOfMemory;
 use std::alloc::{AllocError, AllocFailed};
 use std::{error, fmt};
 
-/// Why a record file was not read. Faults of the header come before those of columns, and those before faults
-/// of rows; of the columns the first faulty field decides, and of the rows the first faulty row.
+/// Why a record file was not read. Faults of the header come before those of columns, and those before
+/// faults of rows. Of the columns the first faulty field decides, and of the rows the first faulty row.
 #[derive(Clone, Copy, Debug, PartialEq, Eq)]
 pub enum SheetFault {
     /// There is no record at all.
@@ -28,6 +29,7 @@ impl fmt::Display for SheetFault {
 
     ghost output = { λ fault. Some (fault_text fault) };
 
+    // Writes the message. Fields and rows, which are numbered from 0, are counted from 1 in it.
     fn fmt<W: fmt::Write>(&self, f: &mut fmt::Formatter<W>) -> fmt::Result {
         match self {
             SheetFault::NoHeader => f.write_str("the record file has no header"),
@@ -61,6 +63,7 @@ impl From<OutOfMemory> for SheetFault {
 
     ghost from_gives = { λ _ fault. fault ≡ faults.OutOfMemory };
 
+    // Refused memory becomes the fault `OutOfMemory`, so that `?` passes it on.
     fn from(_refused: OutOfMemory) -> Self {
         SheetFault::OutOfMemory
     }
@@ -72,6 +75,7 @@ impl From<AllocError> for SheetFault {
 
     ghost from_gives = { λ _ fault. fault ≡ faults.OutOfMemory };
 
+    // Refused memory becomes the fault `OutOfMemory`, so that `?` passes it on.
     fn from(_refused: AllocError) -> Self {
         SheetFault::OutOfMemory
     }
@@ -83,6 +87,7 @@ impl<T: Drop> From<AllocFailed<T>> for SheetFault {
 
     ghost from_gives = { λ _ fault. fault ≡ faults.OutOfMemory };
 
+    // Refused memory becomes the fault `OutOfMemory`. The element that found no room is dropped.
     fn from(_refused: AllocFailed<T>) -> Self {
         SheetFault::OutOfMemory
     }

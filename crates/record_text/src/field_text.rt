@@ -1,3 +1,4 @@
+//! The value that a text in a row stands for, by the kind of its field.
 ghost use Rattle.std.specs.Prelude.{◌≡◌, ◌<◌, ◌≤◌, IfSome, length};
 ghost use Rattle.edit_model.specs.Surveys.{IsKind};
 ghost use Rattle.record_text.specs.Values.{IsValueText, code_number};
@@ -6,7 +7,9 @@ use crate::numeral::fraction_of_text;
 use crate::trim::trimmed;
 use edit_model::{Kind, Name, Value};
 
-/// The value of a field's text, Bad where the text is no numeral or no code of the field. No memory.
+/// The value of a field's text, without the blanks at its ends: a fraction, or the number of a code from
+/// 0. It is `Bad` where the text is no numeral, or no code of the field. `kind` is as in a survey, with at
+/// most 64 codes. No memory.
 pub(crate) fn value_of_text(kind: &Kind, text: &[u8]) -> Value
     requires { IsKind kind.now }
     ensures { IsValueText kind.now text.now result }
@@ -24,7 +27,8 @@ pub(crate) fn value_of_text(kind: &Kind, text: &[u8]) -> Value
     }
 }
 
-/// The number of the code that the text is.
+/// The number, from 0, of the code in `codes` that the text is, or None where it is none of them. There
+/// are at most 64 codes, so that the number fits a byte.
 fn code_of_text(codes: &[Name], text: &[u8]) -> Option<u8>
     requires { length codes.now ≤ 64 }
     ensures { result ≡ code_number codes.now text.now }
@@ -35,6 +39,7 @@ fn code_of_text(codes: &[Name], text: &[u8]) -> Option<u8>
     }
 }
 
+/// The place, from 0, of the code that has these bytes, or None where none has.
 fn code_place(codes: &[Name], text: &[u8]) -> Option<usize>
     ensures place { result ≡ code_number codes.now text.now }
     ensures within { IfSome result (λ place. place < length codes.now) }

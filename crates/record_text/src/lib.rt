@@ -1,6 +1,7 @@
 //! Record files: comma-separated texts, split and written by the crate `csv`. What the bytes of a file
-//! give is stated in `specs/Sheets.antt`, over `specs/Faults.antt` and `specs/Values.antt`. Begin with [`read_records`],
-//! [`Sheet`] and [`RecordWriter`]. Any other CSV text is read by [`read_table`], which `specs/Tables.antt` states.
+//! give is stated in `specs/Sheets.antt`, over `specs/Faults.antt` and `specs/Values.antt`. Begin with
+//! [`read_records`], [`Sheet`] and [`RecordWriter`]. Any other CSV text is read by [`read_table`], which
+//! `specs/Tables.antt` states.
 #![tactic(auto)]
 
 mod columns;

@@ -1,3 +1,9 @@
+//! The fraction that a text of a numerical field spells: a whole number, a decimal number or a quotient. A
+//! sign may stand in front. `docs/record-files.md` has the limits on digits.
+//!
+//! In contracts, `IsNumeral` says that a text spells a fraction, and `IsUnsigned` that it does so without
+//! a sign. `SpellsDecimal` and `SpellsQuotient` say so of the two sides of a point or a stroke.
+//! `AreDigits most` says that a text is digits alone, at most `most` of them.
 ghost use Rattle.std.specs.Prelude.{◌≡◌, ◌<◌, ◌≤◌, ◌^◌, ◌*ℤ◌, IfSome, IfNone, ℕ, pos, position};
 ghost use Rattle.std.specs.Str.Parse.{digits_value};
 ghost use Rattle.fraction128.specs.declared.fraction.Fraction.{Fraction as Spelled};
@@ -21,14 +27,16 @@ const MOST_BELOW: usize = 7;
 /// The greatest denominator.
 const MOST_DENOMINATOR: u128 = 1_000_000;
 
-/// What a numeral spells without its sign.
+/// What a numeral spells without its sign. It need not be in lowest terms, and the denominator is from 1 to
+/// 10^6.
 #[derive(Clone, Copy)]
 struct Ratio {
     numerator: u128,
     denominator: u128,
 }
 
-/// The fraction that a numeral spells, or None where the text is none. No memory.
+/// The fraction that a numeral spells, in lowest terms, or None where the text is no numeral. Blanks at the
+/// ends are no part of a numeral: the caller has trimmed the text. No memory.
 pub(crate) fn fraction_of_text(text: &[u8]) -> Option<Fraction>
     ensures some { IfSome result (λ x. IsNumeral text.now x) }
     ensures none { IfNone result ((x : Spelled) → ¬ IsNumeral text.now x) }
@@ -37,6 +45,7 @@ pub(crate) fn fraction_of_text(text: &[u8]) -> Option<Fraction>
     Some(signed_fraction(has_minus(text), ratio))
 }
 
+/// Whether the text begins with a minus sign.
 fn has_minus(text: &[u8]) -> bool
     ensures { result ≡ has_minus text.now }
 {
@@ -46,6 +55,7 @@ fn has_minus(text: &[u8]) -> bool
     }
 }
 
+/// What follows the sign, `+` or `-`, or the whole text where there is no sign.
 fn without_sign(text: &[u8]) -> &[u8]
     ensures { result.now ≡ without_sign text.now }
 {
@@ -61,6 +71,8 @@ fn without_sign(text: &[u8]) -> &[u8]
     }
 }
 
+/// The fraction `ratio` in lowest terms, negative where `minus` says so. Minus zero is zero. `ratio` is
+/// that of a numeral, so both numbers are small enough.
 fn signed_fraction(minus: bool, ratio: Ratio) -> Fraction
     requires numerator { ratio.numerator < 10 ^ 21 }
     requires denominator { (1 ≤ ratio.denominator) × (ratio.denominator ≤ 1000000) }
@@ -75,7 +87,8 @@ fn signed_fraction(minus: bool, ratio: Ratio) -> Fraction
     }
 }
 
-/// What a numeral without a sign spells: digits, digits with a point among them, or a quotient.
+/// What a text without its sign spells: digits, digits with a point before, among or behind them, or a
+/// quotient. None where it is none of these, or has too many digits.
 fn unsigned_ratio(text: &[u8]) -> Option<Ratio>
     ensures some { IfSome result (λ ratio. IsUnsigned text.now ratio.numerator ratio.denominator) }
     ensures none { IfNone result ((numerator denominator : ℕ) → ¬ IsUnsigned text.now numerator denominator) }
@@ -92,13 +105,16 @@ fn unsigned_ratio(text: &[u8]) -> Option<Ratio>
     }
 }
 
-/// The place of the first point or stroke.
+/// The place of the first point or stroke, which says of what form the numeral is. None where there is
+/// neither.
 fn mark_place(text: &[u8]) -> Option<usize>
     ensures { result ≡ position is_mark text.now }
 {
     text.iter().position(|b| *b == b'.' || *b == b'/')
 }
 
+/// The number with `whole` before the point and `decimals` behind it, over a power of ten: `12` and `50`
+/// give 1250 over 100. None where neither side has a digit, or one has too many digits or another byte.
 fn decimal_ratio(whole: &[u8], decimals: &[u8]) -> Option<Ratio>
     ensures some { IfSome result (λ ratio. SpellsDecimal whole.now decimals.now ratio.numerator ratio.denominator) }
     ensures none { IfNone result ((numerator denominator : ℕ) → ¬ SpellsDecimal whole.now decimals.now numerator denominator) }
@@ -115,6 +131,9 @@ fn decimal_ratio(whole: &[u8], decimals: &[u8]) -> Option<Ratio>
     })
 }
 
+/// The quotient with the digits `above` and `below` its stroke. None where no digit stands above, or where
+/// one side has too many digits or another byte. None also where the denominator is above 10^6 or 0, as it
+/// is without digits below.
 fn quotient_ratio(above: &[u8], below: &[u8]) -> Option<Ratio>
     ensures some { IfSome result (λ ratio. SpellsQuotient above.now below.now ratio.numerator ratio.denominator) }
     ensures none { IfNone result ((numerator denominator : ℕ) → ¬ SpellsQuotient above.now below.now numerator denominator) }
@@ -133,7 +152,8 @@ fn quotient_ratio(above: &[u8], below: &[u8]) -> Option<Ratio>
     })
 }
 
-/// The number that the digits spell, 0 for none; None where one is no digit, or there are more than `most`.
+/// The number that the digits spell, 0 where there are none. None where some byte is no digit, or there
+/// are more than `most`. `most` is at most 21, so that the number fits 128 bits.
 fn number_of_digits(digits: &[u8], most: usize) -> Option<u128>
     requires { most ≤ 21 }
     ensures some { IfSome result (λ n. AreDigits most digits.now × (n ≡ digits_value 10 digits.now)) }

@@ -1,3 +1,7 @@
+//! Records that are written one after another, as the released file and the reasons file are.
+//!
+//! In contracts, `records_text` is what records are written as, each with its line feed.
+//! `IsBetweenRecords` says that csv's writer has begun no record.
 ghost use Rattle.std.specs.Prelude.{◌≡◌, ◌++◌, ◌∷◌, [], OnErr, OnOk, map};
 ghost use Rattle.record_text.specs.Texts.{records_text};
 ghost use Rattle.record_text.specs.inner.Writers.{IsBetweenRecords};
@@ -12,11 +16,10 @@ use std::marker::Model;
 const MOST_GATHERED: usize = 1 << 16;
 
 /// Records that are written one after another, as csv's default writer writes them, each ended by a line
-/// feed. Where memory is refused, what was written stays as before.
-///
-/// Writing into memory gives no output error, and records may differ in length, so csv refuses only for
-/// want of memory. What it then leaves of a record cannot be taken back from its writer, so each record
-/// goes behind the text only when it is whole, and a writer that was refused memory is let go of.
+/// feed. Where memory is refused, what was written stays as before. Writing into memory gives no output
+/// error, and records may differ in length, so csv refuses for want of memory alone. Part of a record
+/// can't be taken back from csv's writer: only whole ones go behind `text`, and a refused writer is
+/// dropped.
 #[derive(Drop)]
 pub struct RecordWriter {
     text: Vec<u8>,
@@ -36,7 +39,7 @@ impl Model for RecordWriter {
 }
 
 impl RecordWriter {
-    /// Nothing written yet. Takes no memory.
+    /// A writer that has written nothing. Takes no memory.
     pub fn new(alloc: Global) -> RecordWriter
         ensures { result ≡ [] }
     {
@@ -47,7 +50,8 @@ impl RecordWriter {
         }
     }
 
-    /// Writes a record of these texts.
+    /// Writes a record of these texts behind those that were written. Where memory is refused, nothing is
+    /// written.
     pub fn push(&mut self, texts: &Texts) -> Result<(), OutOfMemory>
         ensures written { OnOk result (self.new ≡ self.old ++ records_text (texts.now ∷ [])) }
         ensures refused { OnErr result (self.new ≡ self.old) }
@@ -65,7 +69,8 @@ impl RecordWriter {
         Ok(())
     }
 
-    /// Writes a record of these texts.
+    /// Writes a record of these texts behind those that were written, as `push` does. They need not be
+    /// kept together in a [`Texts`].
     pub fn push_slices(&mut self, texts: &[&[u8]]) -> Result<(), OutOfMemory>
         ensures written { OnOk result (self.new ≡ self.old ++ records_text (map (λ text. text.now) texts.now ∷ [])) }
         ensures refused { OnErr result (self.new ≡ self.old) }
@@ -81,7 +86,7 @@ impl RecordWriter {
         Ok(())
     }
 
-    /// All that was written. No memory.
+    /// The text of all records that were written. No memory.
     pub fn into_bytes(self) -> Vec<u8>
         ensures { result.items ≡ self }
     {
@@ -89,7 +94,8 @@ impl RecordWriter {
         text
     }
 
-    // Takes a new writer of csv's where the old one has gathered many bytes, which all stand in the text by now.
+    // Takes a new writer of csv's where the old one has gathered many bytes, which all stand in `text` by
+    // now. Else a writer's own memory would grow with the file.
     fn renew_writer(&mut self)
         ensures { self.new ≡ self.old }
     {

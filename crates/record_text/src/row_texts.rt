@@ -1,3 +1,9 @@
+//! The rows of a CSV file behind its header, as texts. Both readers share this: that of record files, and
+//! that of tables.
+//!
+//! In contracts a place is where csv's reader stands in the bytes, which `IsAt` tells. `AreRecords` says
+//! that these are all records from there on. `rows_fault` is the first fault among such records, and
+//! `IsTextsFault` says that this is it.
 ghost use Rattle.std.specs.Prelude.{◌≡◌, ◌≢◌, IfErr, IfOk, None};
 ghost use Rattle.csv.specs.Reading.{AreRecords, default_config};
 ghost use Rattle.record_text.specs.Tables.{rows_fault};
@@ -9,7 +15,9 @@ use crate::texts::Texts;
 use csv::{ByteRecord, Reader};
 use std::alloc::Global;
 
-/// The texts of all further records, each of `width` texts, where there are at most so many records. `csv_record` is overwritten.
+/// The texts of all further records, from where csv's reader stands to the end. `RowLength` at the first
+/// record that has not `width` texts; `TooManyRows` where more than `most` follow. `csv_record` is
+/// overwritten: it is room that the caller lends.
 pub(crate) fn read_row_texts(
     alloc: Global,
     most: u32,

@@ -1,3 +1,5 @@
+//! Sheets: record files as read. The editor takes its records from one, and writes the released file from
+//! its texts.
 ghost use Rattle.std.specs.Prelude.{◌≡◌, ◌<◌, ◌≤◌, ◌==◌, [], length, slice_index, slice_index_or};
 ghost use Rattle.record_text.specs.Columns.{IsOneColumn};
 ghost use Rattle.record_text.specs.Sheets.{SheetParts};
@@ -28,8 +30,8 @@ impl Model for Sheet {
     ghost invariant = { λ s. (length s.row_texts.items ≡ length s.rows.items) × (length s.rows.items ≤ 200000) × (length s.header ≤ 256) };
 }
 
-/// The parts of a sheet: the header, the column of each field, and the texts and the values of its rows, in
-/// the order of the file.
+/// The parts of a sheet: the header, the column of each field, and the texts and the values of its rows.
+/// All are in the order of the file, but that the columns are in that of the fields.
 #[derive(Debug, Drop)]
 pub struct SheetRows {
     pub header: Texts,
@@ -39,7 +41,8 @@ pub struct SheetRows {
 }
 
 impl Sheet {
-    /// The sheet of these parts. There are as many `row_texts` as `rows`, and at most 200,000, and at most 256 columns. No memory.
+    /// The sheet of these parts. `columns` has the column of each field. Each row has its texts and its
+    /// values at the same place of both lists. There are at most 200,000 rows and 256 columns. No memory.
     pub(crate) fn from_parts(
         header: Texts,
         columns: Vec<u32>,
@@ -90,7 +93,8 @@ impl Sheet {
         &self.header
     }
 
-    /// The texts of the row of this number, from 0. No memory.
+    /// The texts of the row of this number, from 0, as they stand in the file: one for each column of the
+    /// header. No memory.
     pub fn raw(&self, row_no: u32) -> &Texts
         requires { row_no < length self.now.row_texts }
         ensures { result.now ≡ slice_index_or self.now.row_texts row_no [] }
@@ -98,7 +102,7 @@ impl Sheet {
         &self.row_texts[row_no as usize]
     }
 
-    /// The column, from 0, in which a field stands. No memory.
+    /// The column, from 0, in which the field of this number stands. No memory.
     pub fn column(&self, field: u32) -> u32
         requires { field < length self.now.columns }
         ensures { result ≡ slice_index self.now.columns field }
@@ -106,8 +110,8 @@ impl Sheet {
         self.columns[field as usize]
     }
 
-    /// The column, from 0, whose header text, without blanks at its ends, is the name. None where the name stands in no column, or
-    /// in several. No memory.
+    /// The column, from 0, whose header text, without blanks at its ends, is the name. None where the name
+    /// stands in no column, or in several. No memory.
     pub fn column_named(&self, name: &[u8]) -> Option<u32>
         ensures { IsOneColumn name.now self.now.header result }
     {

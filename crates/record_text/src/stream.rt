@@ -1,29 +1,32 @@
+//! csv's reader, as this crate sets it: it opens the bytes of a file, and gives one record after another.
+//!
+//! In contracts a place is where csv's reader stands in the bytes. `IsAt` says that a reader stands there,
+//! and `start_of` is the place before the first record. `Reads` says that one call took the next record,
+//! or that there is none.
 ghost use Rattle.std.specs.Prelude.{◌≡◌, IfOk};
-ghost use Rattle.csv.specs.Reading.{strip_bom};
 ghost use Rattle.csv.specs.Records.{fields_of};
-ghost use Rattle.csv.specs.declared.parser.State.TheVariants as st;
-ghost use Rattle.record_text.specs.inner.Places.{IsAt, Place, Reads};
+ghost use Rattle.record_text.specs.inner.Places.{IsAt, Place, Reads, start_of};
 
+use crate::trim::without_mark;
 use csv::{ByteRecord, Reader, ReaderBuilder};
 use foundation::OutOfMemory;
 use std::alloc::Global;
 
-/// csv's reader of these bytes, by its default settings, before the first record. Records may differ in
-/// length, so that faults of length are the caller's to see.
+/// csv's reader of these bytes, without one byte order mark in front, by its default settings, before the
+/// first record. Records may differ in length, so that faults of length are the caller's to see.
 pub(crate) fn open_records(alloc: Global, bytes: &[u8]) -> Reader<&[u8]>
-    ensures { IsAt result (record { state = st.StartRecord; left = strip_bom bytes.now }) }
+    ensures { IsAt result (start_of bytes.now) }
 {
     ReaderBuilder::new()
         .has_headers(false)
         .flexible(true)
-        .from_reader(alloc, bytes)
+        .from_reader(alloc, without_mark(bytes))
 }
 
-/// Puts the next record into `csv_record`, in the memory that it has, or says that there is none.
-///
-/// csv refuses for an input error, for a record of another length, or for want of memory. A slice gives no
-/// input error, though csv's contract does not say so, and records may differ in length here; so every
-/// refusal is answered as want of memory.
+/// Puts the next record into `csv_record`, in the memory that it has, and answers true; false where there
+/// is no further record. csv may also refuse for an input error, or for a record of another length.
+/// Neither happens here: the reader reads a slice, and records may differ in length. So each refusal is
+/// answered as want of memory.
 pub(crate) fn read_next(
     reader: &mut Reader<&[u8]>,
     csv_record: &mut ByteRecord,

@@ -1,3 +1,4 @@
+//! Why a table was not read, the words that are printed for it, and what it is as a fault of a record file.
 use crate::fault::SheetFault;
 use foundation::OutOfMemory;
 use std::alloc::AllocFailed;
@@ -22,6 +23,7 @@ impl fmt::Display for TableFault {
 
     ghost output = { λ fault. Some (table_fault_text fault) };
 
+    // Writes the message. Rows, which are numbered from 0, are counted from 1 in it.
     fn fmt<W: fmt::Write>(&self, f: &mut fmt::Formatter<W>) -> fmt::Result {
         match self {
             TableFault::NoHeader => f.write_str("the table has no header"),
@@ -46,6 +48,7 @@ impl From<OutOfMemory> for TableFault {
 
     ghost from_gives = { λ _ fault. fault ≡ faults.OutOfMemory };
 
+    // Refused memory becomes the fault `OutOfMemory`, so that `?` passes it on.
     fn from(_refused: OutOfMemory) -> Self {
         TableFault::OutOfMemory
     }
@@ -57,6 +60,7 @@ impl<T: Drop> From<AllocFailed<T>> for TableFault {
 
     ghost from_gives = { λ _ fault. fault ≡ faults.OutOfMemory };
 
+    // Refused memory becomes the fault `OutOfMemory`. The element that found no room is dropped.
     fn from(_refused: AllocFailed<T>) -> Self {
         TableFault::OutOfMemory
     }
@@ -68,6 +72,7 @@ impl From<TableFault> for SheetFault {
 
     ghost from_gives = { λ fault told. told ≡ sheet_fault_of fault };
 
+    // The fault of the same name of a record file, whose rows are read in the same way.
     fn from(fault: TableFault) -> Self {
         match fault {
             TableFault::NoHeader => SheetFault::NoHeader,

@@ -1,3 +1,4 @@
+//! The texts of one record of a CSV file, as the reader gives them and the writers take them.
 ghost use Rattle.std.specs.Prelude.{◌≡◌, ◌<◌, ◌==◌, ◌++◌, ◌∷◌, [], IfOk, OnErr, OnOk, length, slice_index_or};
 ghost use Rattle.csv.specs.Records.{fields_of};
 ghost use Rattle.record_text.specs.Trimming.{header_of};
@@ -24,7 +25,7 @@ impl Model for Texts {
 }
 
 impl Texts {
-    /// No texts yet. Takes no memory.
+    /// A list without texts. Takes no memory.
     pub fn new(alloc: Global) -> Texts
         ensures { result ≡ [] }
     {
@@ -33,7 +34,8 @@ impl Texts {
         }
     }
 
-    /// The texts of a record that csv gave.
+    /// A copy of the texts of a record that csv gave. `csv_record` itself is overwritten by the next
+    /// record.
     pub(crate) fn of_record(alloc: Global, csv_record: &ByteRecord) -> Result<Texts, OutOfMemory>
         ensures { IfOk result (λ texts. texts ≡ fields_of csv_record.now) }
     {
@@ -48,7 +50,8 @@ impl Texts {
         Ok(Texts { record: copy })
     }
 
-    /// The texts of the header that csv gave: the first is without byte order marks in front.
+    /// A copy of the texts of the header that csv gave, as the names of columns. The first text is without
+    /// the byte order marks in front of it, however many.
     pub(crate) fn of_header(alloc: Global, csv_record: &ByteRecord) -> Result<Texts, OutOfMemory>
         ensures { IfOk result (λ texts. texts ≡ header_of (fields_of csv_record.now)) }
     {
@@ -61,8 +64,8 @@ impl Texts {
 
     /// Adds a text at the end. Where memory is refused, the texts are as before.
     ///
-    /// csv keeps the bytes of a text for whose end it had no room. So a place is made first, and taken off
-    /// again with all such bytes.
+    /// Where csv has room for a text's bytes but none for its end, it keeps the bytes. So an empty text is
+    /// added first, which makes room for an end, and is truncated off again with all such bytes.
     pub fn push(&mut self, text: &[u8]) -> Result<(), OutOfMemory>
         ensures added { OnOk result (self.new ≡ self.old ++ text.now ∷ []) }
         ensures refused { OnErr result (self.new ≡ self.old) }
@@ -89,14 +92,14 @@ impl Texts {
         self.record.len()
     }
 
-    /// Whether there are none. No memory.
+    /// Whether there is no text. No memory.
     pub fn is_empty(&self) -> bool
         ensures { result ≡ (length self.now == 0) }
     {
         self.record.is_empty()
     }
 
-    /// The record that holds the texts. No memory.
+    /// The csv record that holds the texts, for csv's writer. No memory.
     pub(crate) fn as_record(&self) -> &ByteRecord
         ensures { fields_of result.now ≡ self.now }
     {

@@ -1,3 +1,4 @@
+//! Records that are written all at once, into one piece of memory.
 ghost use Rattle.std.specs.Prelude.{◌≡◌, IfOk};
 ghost use Rattle.record_text.specs.Texts.{AreEquallyLong, records_text};
 
@@ -9,8 +10,8 @@ use std::alloc::Global;
 /// The records as csv's default writer writes them, each ended by a line feed. They are equally long, and
 /// have at least one field each.
 ///
-/// Writing into memory gives no output error, and equally long records none of lengths, so csv refuses
-/// only for want of memory.
+/// Writing into memory gives no output error, and equally long records give no error of length. So csv
+/// refuses for want of memory alone.
 pub fn write_rows(alloc: Global, rows: &[Texts]) -> Result<Vec<u8>, OutOfMemory>
     requires { AreEquallyLong rows.now }
     ensures { IfOk result (λ bytes. bytes.items ≡ records_text rows.now) }

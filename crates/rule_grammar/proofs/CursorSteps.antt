@@ -6,7 +6,8 @@ use Rattle.rule_grammar.specs.Tokens.{after_blanks, is_inside_after, with_front}
 use Rattle.rule_grammar.specs.inner.Fronts.{tokens_from}
 use Rattle.rule_grammar.specs.declared.token.Token.{Token}
 
-front_is_first : (inside : Bool) (after : List ℕ) (t : Token) (rest : List ℕ) → IsFrontOf inside after t rest → with_front inside after tokens_from ≡ t ∷ tokens_from (is_inside_after inside t) rest
+front_is_first : (inside : Bool) (after : List ℕ) (t : Token) (rest : List ℕ) → IsFrontOf inside after t rest
+    → with_front inside after tokens_from ≡ t ∷ tokens_from (is_inside_after inside t) rest
 front_is_first inside [] t rest front = absurd front
 front_is_first inside (b ∷ bs) t rest front = rw (front.0, front.1) refl
 

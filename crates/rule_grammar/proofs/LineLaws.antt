@@ -17,7 +17,8 @@ line_empty text none = nothing (tokens_of text) none
     nothing [] over = refl
     nothing (t ∷ ts) over = absurd (cc)
 
-pub line_says : (text : List ℕ) (s : Written) (left : List Token) → statement_at (tokens_of text) ≡ Some (s, left) → ends left ≡ true → IsLineText text (line.Says s)
+pub line_says : (text : List ℕ) (s : Written) (left : List Token) → statement_at (tokens_of text) ≡ Some (s, left) → ends left ≡ true
+    → IsLineText text (line.Says s)
 line_says text s [] read over =
     let whole = read_whole (tokens_of text) s read in
     (whole, names_of_text text s whole)
@@ -31,7 +32,8 @@ some_tokens ts some none =
 pub line_unread : (text : List ℕ) → ends (tokens_of text) ≡ false → statement_at (tokens_of text) ≡ None → IsLineText text line.Unreadable
 line_unread text some read = (some_tokens (tokens_of text) some, λ s. not_read (tokens_of text) s read)
 
-pub line_left : (text : List ℕ) (s : Written) (left : List Token) → ends (tokens_of text) ≡ false → statement_at (tokens_of text) ≡ Some (s, left) → ends left ≡ false → IsLineText text line.Unreadable
+pub line_left : (text : List ℕ) (s : Written) (left : List Token) → ends (tokens_of text) ≡ false → statement_at (tokens_of text) ≡ Some (s, left)
+    → ends left ≡ false → IsLineText text line.Unreadable
 line_left text s [] some read over = absurd (cc)
 line_left text s (first ∷ left) some read over = (some_tokens (tokens_of text) some, λ t. not_left (tokens_of text) s t first left read)
 

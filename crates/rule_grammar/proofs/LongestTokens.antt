@@ -1,5 +1,6 @@
 -- Each token of a text is spelled by the bytes that it takes, and no longer front of what is left spells a token.
-use Rattle.std.proofs.Common.{◌≡◌, ◌∙◌, refl, sym, ap, subst, inl, inr, ⊎_elim, ◌⊎◌, ℕ, zero, suc, ◌+◌, ◌≤◌, ◌^◌, Bool, true, false, List, [], ◌∷◌, ◌++◌, length, take, drop, arith}
+use Rattle.std.proofs.Common.{◌≡◌, ◌∙◌, refl, sym, ap, subst, inl, inr, ⊎_elim, ◌⊎◌, ℕ, zero, suc, ◌+◌, ◌≤◌, ◌^◌, Bool, true, false, List, [], ◌∷◌, ◌++◌}
+use Rattle.std.proofs.Common.{length, take, drop, arith}
 use Rattle.std.proofs.Math.Numerals.{one-add}
 use Rattle.std.proofs.lemmas.Bool.{and_parts, cond_both, eqb-false, eqb-true, leb-false, leb-true, true≢false}
 use Rattle.std.proofs.lemmas.Bool.Decides.{nat_tests}
@@ -16,10 +17,12 @@ use Rattle.edit_model.specs.Surveys.{IsName, is_digit, is_letter, has_name_form,
 use Rattle.edit_model.specs.declared.rule.Compare.{Compare as Comparison}
 use Rattle.edit_model.specs.declared.rule.Compare.TheVariants.{Ge, Gt, Le, Lt, Eq}
 use Rattle.rule_grammar.proofs.Runs.{prefix_passes, run_passes}
-use Rattle.rule_grammar.proofs.TokenSteps.{after_blanks_length, front_of_code, front_of_numeral, front_of_rest, front_of_word, letter_is_word, prefix_of_run, prefix_some}
+use Rattle.rule_grammar.proofs.TokenSteps.{after_blanks_length, front_of_code, front_of_numeral, front_of_rest, front_of_word, letter_is_word, prefix_of_run}
+use Rattle.rule_grammar.proofs.TokenSteps.{prefix_some}
 use Rattle.rule_grammar.specs.Names.{IsCodeText}
 use Rattle.rule_grammar.specs.Spellings.{AreLongestTokens, IsDecimal, IsDigits, IsLongestToken, IsNumeralText, IsSpelled, compare_text, keyword_text}
-use Rattle.rule_grammar.specs.Tokens.{Front, after_blanks, decimals_len, front_compare, front_numeral, front_of, is_code_byte, is_inside_after, is_word_byte, list_mark_token, mark_token, tokens_within, whole_numeral, with_front, word_token}
+use Rattle.rule_grammar.specs.Tokens.{Front, after_blanks, decimals_len, front_compare, front_numeral, front_of, is_code_byte, is_inside_after, is_word_byte}
+use Rattle.rule_grammar.specs.Tokens.{list_mark_token, mark_token, tokens_within, whole_numeral, with_front, word_token}
 use Rattle.rule_grammar.specs.inner.Fronts.{code_len, front_code, front_word, tokens_from, word_len}
 use Rattle.rule_grammar.specs.declared.token.Keyword.{Keyword}
 use Rattle.rule_grammar.specs.declared.token.Keyword.TheVariants as keyword
@@ -50,7 +53,8 @@ word_spelled word size form =
     cond_both (bytes_eq word (codes "then")) _ _ P (is (codes "then")) (λ i.
     (refl, record { size = size; form = form; free = (none_of_words word reserved_words).0 (rw (a, b, c, d, e, f, g, h, i) refl) }))))))))))
 
-taken_word_spelled : (n b : ℕ) (bs : List ℕ) → 1 ≤ n → n ≤ 32 → n ≤ prefix_len is_word_byte (b ∷ bs) → is_letter b ≡ true → IsSpelled false (word_token (take n (b ∷ bs))) (take n (b ∷ bs))
+taken_word_spelled : (n b : ℕ) (bs : List ℕ) → 1 ≤ n → n ≤ 32 → n ≤ prefix_len is_word_byte (b ∷ bs) → is_letter b ≡ true
+    → IsSpelled false (word_token (take n (b ∷ bs))) (take n (b ∷ bs))
 taken_word_spelled zero b bs some short run letter = absurd (omega arith)
 taken_word_spelled (suc n) b bs some short run letter =
     let all = and_parts (is_word_byte b) (list_all is_word_byte (take n bs)) (run_passes is_word_byte (suc n) (b ∷ bs) run) in
@@ -98,7 +102,8 @@ decimals_pointed (b ∷ bs) some = cond_both (b == 46) _ _ (λ m. (m == 0) ≡ f
     (λ _ h. absurd (true≢false h)) some
 
 parts_of : (d k : ℕ) (text : List ℕ) → text ≡ (take d text ++ take k (drop d text)) ++ drop k (drop d text)
-parts_of d k text = sym (append_assoc (take d text) (take k (drop d text)) (drop k (drop d text)) ∙ ap (λ (back : List ℕ). take d text ++ back) (take-append-drop k (drop d text)) ∙ take-append-drop d text)
+parts_of d k text = sym (append_assoc (take d text) (take k (drop d text)) (drop k (drop d text))
+    ∙ ap (λ (back : List ℕ). take d text ++ back) (take-append-drop k (drop d text)) ∙ take-append-drop d text)
 
 front_numeral_spelled : (b : ℕ) (bs : List ℕ) → is_digit b ≡ true → IsSpelledFront false (b ∷ bs) (front_numeral (b ∷ bs))
 front_numeral_spelled b bs digit =
@@ -107,11 +112,21 @@ front_numeral_spelled b bs digit =
     let k = decimals_len (drop d text) in
     let whole = prefix_is_digits text (prefix_some is_digit b bs digit) in
     cond_both (k == 0) _ _ (IsSpelledFront false text) (λ _. (take d text, sym (take-append-drop d text), whole_spelled (take d text) whole)) (λ some.
-    let behind = decimals_pointed (drop d text) some in
-    (take d text ++ take k (drop d text), parts_of d k text, inr (record { whole = take d text; decimals = behind.0; parts = ap (λ (back : List ℕ). take d text ++ back) behind.1; before = whole; behind = behind.2 })))
+    let behind = decimals_pointed (drop d text) some in (
+      take d text ++ take k (drop d text),
+      parts_of d k text,
+      inr (record {
+        whole = take d text;
+        decimals = behind.0;
+        parts = ap (λ (back : List ℕ). take d text ++ back) behind.1;
+        before = whole;
+        behind = behind.2;
+      }),
+    ))
 
 -- comparisons and the other marks
-front_compare_spelled : (b : ℕ) (wide strict : Comparison) (bs : List ℕ) → b ∷ 61 ∷ [] ≡ compare_text wide → b ∷ [] ≡ compare_text strict → IsSpelledFront false (b ∷ bs) (front_compare wide strict bs)
+front_compare_spelled : (b : ℕ) (wide strict : Comparison) (bs : List ℕ) → b ∷ 61 ∷ [] ≡ compare_text wide → b ∷ [] ≡ compare_text strict
+    → IsSpelledFront false (b ∷ bs) (front_compare wide strict bs)
 front_compare_spelled b wide strict [] wide_is strict_is = (b ∷ [], refl, strict_is)
 front_compare_spelled b wide strict (c ∷ cs) wide_is strict_is = cond_both (c == 61) _ _ (IsSpelledFront false (b ∷ c ∷ cs))
     (λ same. (b ∷ 61 ∷ [], ap (λ (x : ℕ). b ∷ x ∷ cs) (eqb-true c 61 same), wide_is)) (λ _. (b ∷ [], refl, strict_is))
@@ -131,11 +146,14 @@ list_mark_spelled b in_code =
     let is = λ (c : ℕ) (same : (b == c) ≡ true). ap (λ (x : ℕ). x ∷ []) (eqb-true b c same) in
     cond_both (b == 44) _ _ P (is 44) (λ comma. cond_both (b == 125) _ _ P (is 125) (λ close. (b, refl, rw (in_code, comma, close) refl)))
 
-compare_at : (b c : ℕ) (wide strict : Comparison) (bs : List ℕ) → b ≡ c → c ∷ 61 ∷ [] ≡ compare_text wide → c ∷ [] ≡ compare_text strict → IsSpelledFront false (b ∷ bs) (front_compare wide strict bs)
-compare_at b c wide strict bs same wide_is strict_is = front_compare_spelled b wide strict bs (ap (λ (x : ℕ). x ∷ 61 ∷ []) same ∙ wide_is) (ap (λ (x : ℕ). x ∷ []) same ∙ strict_is)
+compare_at : (b c : ℕ) (wide strict : Comparison) (bs : List ℕ) → b ≡ c → c ∷ 61 ∷ [] ≡ compare_text wide → c ∷ [] ≡ compare_text strict
+    → IsSpelledFront false (b ∷ bs) (front_compare wide strict bs)
+compare_at b c wide strict bs same wide_is strict_is =
+    front_compare_spelled b wide strict bs (ap (λ (x : ℕ). x ∷ 61 ∷ []) same ∙ wide_is) (ap (λ (x : ℕ). x ∷ []) same ∙ strict_is)
 
 front_spelled : (inside : Bool) (b : ℕ) (bs : List ℕ) → IsSpelledFront inside (b ∷ bs) (front_of inside b bs)
-front_spelled true b bs = cond_both (is_code_byte b) _ _ (IsSpelledFront true (b ∷ bs)) (front_code_spelled b bs) (λ in_code. (b ∷ [], refl, list_mark_spelled b in_code))
+front_spelled true b bs = cond_both (is_code_byte b) _ _ (IsSpelledFront true (b ∷ bs)) (front_code_spelled b bs)
+    (λ in_code. (b ∷ [], refl, list_mark_spelled b in_code))
 front_spelled false b bs =
     let P = IsSpelledFront false (b ∷ bs) in
     cond_both (is_letter b) _ _ P (front_word_spelled b bs) (λ letter.
@@ -209,7 +227,8 @@ digits_not_longer (b ∷ bs) after digits =
     let d = prefix_len is_digit text in
     let k = decimals_len (drop d text) in
     let short : length (drop d text) ≤ length after = omega (arith, length-drop d text, length-append bs after) in
-    rw (front_of_numeral b (bs ++ after) first.0) (cond_both (k == 0) _ _ (IsRestWithin (length after)) (λ _. short) (λ _. omega (arith, length-drop k (drop d text))))
+    rw (front_of_numeral b (bs ++ after) first.0) (cond_both (k == 0) _ _ (IsRestWithin (length after)) (λ _. short)
+    (λ _. omega (arith, length-drop k (drop d text))))
 
 pub suc_not_zero : (n : ℕ) → (suc n == 0) ≡ false
 suc_not_zero n = grind (arith, nat_tests)
@@ -219,7 +238,8 @@ decimal_rest whole ds after before behind =
     let d : prefix_len is_digit (whole ++ 46 ∷ (ds ++ after)) ≡ length whole = prefix_of_run is_digit whole (46 ∷ (ds ++ after)) before.1 refl in
     let more = run_at_most is_digit ds after behind.1 in
     let some : (prefix_len is_digit (ds ++ after) == 0) ≡ false = grind (arith, nat_tests, behind.0) in
-    rw (d, drop_at whole (46 ∷ (ds ++ after)) (length whole) refl, some, one-add, suc_not_zero) (omega (arith, length-drop (prefix_len is_digit (ds ++ after)) (ds ++ after), length-append ds after))
+    rw (d, drop_at whole (46 ∷ (ds ++ after)) (length whole) refl, some, one-add, suc_not_zero)
+    (omega (arith, length-drop (prefix_len is_digit (ds ++ after)) (ds ++ after), length-append ds after))
 
 pub first_is_digit : (whole back : List ℕ) (b : ℕ) (bs : List ℕ) → b ∷ bs ≡ whole ++ back → IsDigits whole → is_digit b ≡ true
 first_is_digit [] back b bs parts digits = absurd (omega (arith, digits.0))
@@ -229,13 +249,16 @@ decimal_not_longer : (bytes after : List ℕ) → IsDecimal bytes → IsNotLonge
 decimal_not_longer [] after decimal = tt
 decimal_not_longer (b ∷ bs) after decimal =
     let digit = first_is_digit decimal.whole (46 ∷ decimal.decimals) b bs decimal.parts decimal.before in
-    let text : b ∷ (bs ++ after) ≡ decimal.whole ++ 46 ∷ (decimal.decimals ++ after) = ap (λ (t : List ℕ). t ++ after) decimal.parts ∙ append_assoc decimal.whole (46 ∷ decimal.decimals) after in
-    let front : front_of false b (bs ++ after) ≡ front_numeral (decimal.whole ++ 46 ∷ (decimal.decimals ++ after)) = front_of_numeral b (bs ++ after) digit ∙ ap front_numeral text in
+    let text : b ∷ (bs ++ after) ≡ decimal.whole ++ 46 ∷ (decimal.decimals ++ after) = ap (λ (t : List ℕ). t ++ after) decimal.parts
+    ∙ append_assoc decimal.whole (46 ∷ decimal.decimals) after in
+    let front : front_of false b (bs ++ after) ≡ front_numeral (decimal.whole ++ 46 ∷ (decimal.decimals ++ after)) = front_of_numeral b (bs ++ after) digit
+    ∙ ap front_numeral text in
     subst (IsRestWithin (length after)) (sym front) (decimal_rest decimal.whole decimal.decimals after decimal.before decimal.behind)
 
 numeral_not_longer : (n : Numeral) (bytes after : List ℕ) → IsNumeralText n bytes → IsNotLonger false after bytes
 numeral_not_longer (amount.Whole number) bytes after numeral = digits_not_longer bytes after numeral.0
-numeral_not_longer amount.OutOfRange bytes after numeral = ⊎_elim (λ large. digits_not_longer bytes after large.0) (λ decimal. decimal_not_longer bytes after decimal) numeral
+numeral_not_longer amount.OutOfRange bytes after numeral =
+    ⊎_elim (λ large. digits_not_longer bytes after large.0) (λ decimal. decimal_not_longer bytes after decimal) numeral
 
 compare_not_longer : (c : Comparison) (after : List ℕ) → IsNotLonger false after (compare_text c)
 compare_not_longer Ge after = omega arith
@@ -246,7 +269,8 @@ compare_not_longer Eq after = one_byte false (compare_text Eq) after refl
 
 spelled_not_longer : (inside : Bool) (t : Token) (bytes after : List ℕ) → IsSpelled inside t bytes → IsNotLonger inside after bytes
 spelled_not_longer false (token.Keyword k) bytes after spelled = word_not_longer bytes after (subst IsWordText (sym spelled) (keyword_is_word k))
-spelled_not_longer false (token.Name name) bytes after spelled = subst (IsNotLonger false after) (sym spelled.0) (word_not_longer name after (name_is_word name spelled.1))
+spelled_not_longer false (token.Name name) bytes after spelled =
+    subst (IsNotLonger false after) (sym spelled.0) (word_not_longer name after (name_is_word name spelled.1))
 spelled_not_longer false (token.Numeral n) bytes after spelled = numeral_not_longer n bytes after spelled
 spelled_not_longer false (token.Sign sign.Plus) bytes after spelled = one_byte false bytes after (ap length spelled)
 spelled_not_longer false (token.Sign sign.Minus) bytes after spelled = one_byte false bytes after (ap length spelled)
@@ -261,7 +285,8 @@ spelled_not_longer true token.Stray bytes after spelled = one_byte true bytes af
 spelled_not_longer _ _ bytes after spelled = absurd spelled
 
 -- so the token at the front is the longest
-longer_than_none : (inside : Bool) (b : ℕ) (bs other after : List ℕ) → b ∷ bs ≡ other ++ after → IsNotLonger inside after other → length (front_of inside b bs).rest ≤ length after ⊎ (length other ≤ 0)
+longer_than_none : (inside : Bool) (b : ℕ) (bs other after : List ℕ) → b ∷ bs ≡ other ++ after → IsNotLonger inside after other
+    → length (front_of inside b bs).rest ≤ length after ⊎ (length other ≤ 0)
 longer_than_none inside b bs [] after same short = inr (omega arith)
 longer_than_none inside b bs (c ∷ cs) after same short =
     let first : b ≡ c = cc in
@@ -275,7 +300,8 @@ front_is_longest inside b bs =
     let longest = λ (u : Token) (other after : List ℕ) (same : b ∷ bs ≡ other ++ after) (reads : IsSpelled inside u other).
     (let both : length (b ∷ bs) ≡ length other + length after = ap length same ∙ length-append other after in
     let short = longer_than_none inside b bs other after same (spelled_not_longer inside u other after reads) in
-    let is : length other ≤ length spelled.0 = ⊎_elim (λ (h : length f.rest ≤ length after). (let w : length other ≤ length spelled.0 = omega arith in w)) (λ (h : length other ≤ 0). (let w : length other ≤ length spelled.0 = omega arith in w)) short in is) in
+    let is : length other ≤ length spelled.0 = ⊎_elim (λ (h : length f.rest ≤ length after). (let w : length other ≤ length spelled.0 = omega arith in w))
+    (λ (h : length other ≤ 0). (let w : length other ≤ length spelled.0 = omega arith in w)) short in is) in
     record { front = spelled.0; parts = spelled.1; spelled = spelled.2; longest = longest }
 
 -- ---- all tokens of a text

@@ -19,7 +19,8 @@ digit_at digits i all within =
     let both = and_parts (nat_le 48 (get_or digits i 0)) (nat_le (get_or digits i 0) 57) one in
     (leb-true 48 (get_or digits i 0) both.0, leb-true (get_or digits i 0) 57 both.1)
 
-pub number_more : (digits : List ℕ) (n i d : ℕ) → list_all is_digit digits ≡ true → i < length digits → n ≡ digits_value 10 (take i digits) → d ≡ get_or digits i 0 - 48
+pub number_more : (digits : List ℕ) (n i d : ℕ) → list_all is_digit digits ≡ true → i < length digits → n ≡ digits_value 10 (take i digits)
+    → d ≡ get_or digits i 0 - 48
     → n * 10 + d ≡ digits_value 10 (take (i + 1) digits)
 number_more digits n i d all within so_far same =
     let digit = digit_at digits i all within in
@@ -28,5 +29,6 @@ number_more digits n i d all within so_far same =
 
 pub number_large : (digits : List ℕ) (i n : ℕ) → n ≡ digits_value 10 (take i digits) → 10 ^ 15 < n → amount.OutOfRange ≡ whole_numeral digits
 number_large digits i n same large =
-    let above : nat_le (digits_value 10 digits) (10 ^ 15) ≡ false = lt-leb (digits_value 10 digits) (10 ^ 15) (omega (arith, digits_value-take-le 10 digits i)) in
+    let above : nat_le (digits_value 10 digits) (10 ^ 15) ≡ false =
+    lt-leb (digits_value 10 digits) (10 ^ 15) (omega (arith, digits_value-take-le 10 digits i)) in
     rw above refl

@@ -12,9 +12,11 @@ use Rattle.edit_model.specs.declared.rule.Compare.{Compare as Comparison}
 use Rattle.edit_model.specs.declared.rule.Compare.TheVariants.{Ge, Gt, Le, Lt, Eq}
 use Rattle.rule_grammar.proofs.Keywords.{each_keyword}
 use Rattle.rule_grammar.proofs.LongestTokens.{first_is_digit, front_is_longest, suc_not_zero}
-use Rattle.rule_grammar.proofs.TokenSteps.{front_code_is, front_numeral_is, front_of_code, front_of_numeral, front_of_word, front_word_is, letter_is_word, prefix_of_run, prefix_some, tokens_from_step, word_token_is}
+use Rattle.rule_grammar.proofs.TokenSteps.{front_code_is, front_numeral_is, front_of_code, front_of_numeral, front_of_word, front_word_is, letter_is_word}
+use Rattle.rule_grammar.proofs.TokenSteps.{prefix_of_run, prefix_some, tokens_from_step, word_token_is}
 use Rattle.rule_grammar.specs.Names.{IsCodeText}
-use Rattle.rule_grammar.specs.Spellings.{AreLongestTokens, IsDecimal, IsDigits, IsLongestToken, IsNumeralText, IsSpelled, begins_token, compare_text, keyword_text}
+use Rattle.rule_grammar.specs.Spellings.{AreLongestTokens, IsDecimal, IsDigits, IsLongestToken, IsNumeralText, IsSpelled, begins_token, compare_text}
+use Rattle.rule_grammar.specs.Spellings.{keyword_text}
 use Rattle.rule_grammar.specs.Tokens.{Front, after_blanks, front_numeral, front_of, is_code_byte, is_inside_after, is_word_byte, whole_numeral, with_front}
 use Rattle.rule_grammar.specs.inner.Fronts.{front_code, front_word, tokens_from}
 use Rattle.rule_grammar.specs.declared.token.Keyword.{Keyword}
@@ -78,7 +80,8 @@ decimal_front whole ds before behind =
 
 decimal_token : (bytes : List ℕ) → IsDecimal bytes → IsTokenOf false (token.Numeral amount.OutOfRange) bytes
 decimal_token [] decimal =
-    let size : 0 ≡ length decimal.whole + length (46 ∷ decimal.decimals) = ap length decimal.parts ∙ length-append decimal.whole (46 ∷ decimal.decimals) in omega arith
+    let size : 0 ≡ length decimal.whole + length (46 ∷ decimal.decimals) = ap length decimal.parts ∙ length-append decimal.whole (46 ∷ decimal.decimals) in
+    omega arith
 decimal_token (b ∷ bs) decimal =
     let digit = first_is_digit decimal.whole (46 ∷ decimal.decimals) b bs decimal.parts decimal.before in
     ap token_of (front_of_numeral b bs digit ∙ ap front_numeral decimal.parts) ∙ decimal_front decimal.whole decimal.decimals decimal.before decimal.behind
@@ -91,7 +94,8 @@ numeral_token (amount.Whole number) bytes numeral =
 numeral_token amount.OutOfRange bytes numeral =
     let P : Numeral → Type 0 = λ n. IsTokenOf false (token.Numeral n) bytes in
     ⊎_elim (λ large. (let large_is : nat_le (digits_value 10 bytes) (10 ^ 15) ≡ false = lt-leb (digits_value 10 bytes) (10 ^ 15) large.1 in
-    let same : whole_numeral bytes ≡ amount.OutOfRange = rw large_is refl in subst P same (digits_token bytes large.0))) (λ decimal. decimal_token bytes decimal) numeral
+    let same : whole_numeral bytes ≡ amount.OutOfRange = rw large_is refl in subst P same (digits_token bytes large.0)))
+    (λ decimal. decimal_token bytes decimal) numeral
 
 stray_outside : (b : ℕ) → begins_token false b ≡ false → (front_of false b []).token ≡ token.Stray
 stray_outside b none =
@@ -137,14 +141,18 @@ same_front : (front other rest after : List ℕ) → front ++ rest ≡ other ++ 
 same_front front other rest after text size =
     sym (take_at front rest (length other) size) ∙ ap (λ (bs : List ℕ). take (length other) bs) text ∙ take_at other after (length other) refl
 
-same_longest : (inside : Bool) (text : List ℕ) (t u : Token) (rest after : List ℕ) → IsLongestToken inside text t rest → IsLongestToken inside text u after → (t ≡ u) × (rest ≡ after)
+same_longest : (inside : Bool) (text : List ℕ) (t u : Token) (rest after : List ℕ) → IsLongestToken inside text t rest → IsLongestToken inside text u after
+    → (t ≡ u) × (rest ≡ after)
 same_longest inside text t u rest after first second =
     let above = first.longest u second.front after second.parts second.spelled in
     let below = second.longest t first.front rest first.parts first.spelled in
     let joined : first.front ++ rest ≡ second.front ++ after = sym first.parts ∙ second.parts in
     let front : first.front ≡ second.front = same_front first.front second.front rest after joined (omega arith) in
-    let back : second.front ++ rest ≡ second.front ++ after = ap (λ (f : List ℕ). f ++ rest) (sym front) ∙ joined in
-    (same_token inside t u second.front (subst (IsTokenOf inside t) front (bytes_token inside t first.front first.spelled)) (bytes_token inside u second.front second.spelled), append_cancel_left second.front rest after back)
+    let back : second.front ++ rest ≡ second.front ++ after = ap (λ (f : List ℕ). f ++ rest) (sym front) ∙ joined in (
+      same_token inside t u second.front (subst (IsTokenOf inside t) front (bytes_token inside t first.front first.spelled))
+          (bytes_token inside u second.front second.spelled),
+      append_cancel_left second.front rest after back,
+    )
 
 -- ---- one list of tokens
 
@@ -155,7 +163,8 @@ no_longest inside t rest first = no_bytes first.front (bytes_token inside t firs
     no_bytes [] of parts = of
     no_bytes (b ∷ bs) of parts = cc
 
-one_more : (inside : Bool) (after : List ℕ) (t : Token) (rest : List ℕ) (ts : List Token) → IsLongestToken inside after t rest → ts ≡ tokens_from (is_inside_after inside t) rest → t ∷ ts ≡ with_front inside after tokens_from
+one_more : (inside : Bool) (after : List ℕ) (t : Token) (rest : List ℕ) (ts : List Token) → IsLongestToken inside after t rest
+    → ts ≡ tokens_from (is_inside_after inside t) rest → t ∷ ts ≡ with_front inside after tokens_from
 one_more inside [] t rest ts first others = absurd (no_longest inside t rest first)
 one_more inside (b ∷ bs) t rest ts first others =
     let same = same_longest inside (b ∷ bs) t (front_of inside b bs).token rest (front_of inside b bs).rest first (front_is_longest inside b bs) in

@@ -22,28 +22,34 @@ abbrev pub Shortens : {X : Type 0} → List Token → Reading X → Type 0
 Shortens ts None = Unit {0}
 Shortens ts (Some found) = length found.1 < length ts
 
-pub spells_after : {X Y : Type 0} (first : X → List Token) (spelling : Y → List Token) (ts : List Token) (reading : Reading X) (next : X → List Token → Reading Y) → Spells first ts reading → ((x : X) (left : List Token) → Spells spelling (first x ++ left) (next x left)) → Spells spelling ts (then_read reading next)
+pub spells_after : {X Y : Type 0} (first : X → List Token) (spelling : Y → List Token) (ts : List Token) (reading : Reading X)
+    (next : X → List Token → Reading Y) → Spells first ts reading → ((x : X) (left : List Token) → Spells spelling (first x ++ left) (next x left))
+    → Spells spelling ts (then_read reading next)
 spells_after first spelling ts None next one more = tt
 spells_after first spelling ts (Some found) next one more = rw one (more found.0 found.1)
 
 -- one token before all
-pub spells_behind : {X : Type 0} (front : List Token) (spelling : X → List Token) (ts : List Token) (reading : Reading X) → Spells spelling ts reading → Spells (λ x. front ++ spelling x) (front ++ ts) reading
+pub spells_behind : {X : Type 0} (front : List Token) (spelling : X → List Token) (ts : List Token) (reading : Reading X) → Spells spelling ts reading
+    → Spells (λ x. front ++ spelling x) (front ++ ts) reading
 spells_behind front spelling ts None one = tt
 spells_behind front spelling ts (Some found) one = ap (λ l. front ++ l) one ∙ sym (append_assoc front (spelling found.0) found.1)
 
 -- a reading under another spelling
-pub spells_as : {X Y : Type 0} (spelling : X → List Token) (other : Y → List Token) (made : X → Y) (ts : List Token) (reading : Reading X) → ((x : X) → other (made x) ≡ spelling x) → Spells spelling ts reading → Spells other ts (then_read reading (λ x left. Some (made x, left)))
+pub spells_as : {X Y : Type 0} (spelling : X → List Token) (other : Y → List Token) (made : X → Y) (ts : List Token) (reading : Reading X)
+    → ((x : X) → other (made x) ≡ spelling x) → Spells spelling ts reading → Spells other ts (then_read reading (λ x left. Some (made x, left)))
 spells_as spelling other made ts None same one = tt
 spells_as spelling other made ts (Some found) same one = rw (same found.0) one
 
-pub spells_read : {X : Type 0} (spelling : X → List Token) (ts left : List Token) (x : X) (reading : Reading X) → Spells spelling ts reading → reading ≡ Some (x, left) → ts ≡ spelling x ++ left
+pub spells_read : {X : Type 0} (spelling : X → List Token) (ts left : List Token) (x : X) (reading : Reading X) → Spells spelling ts reading
+    → reading ≡ Some (x, left) → ts ≡ spelling x ++ left
 spells_read spelling ts left x reading one is = subst (Spells spelling ts) is one
 
 pub shortens_read : {X : Type 0} (ts left : List Token) (x : X) (reading : Reading X) → Shortens ts reading → reading ≡ Some (x, left) → length left < length ts
 shortens_read ts left x reading one is = subst (Shortens ts) is one
 
 -- a spelling is never empty
-pub shortens_spelled : {X : Type 0} (spelling : X → List Token) (ts : List Token) (reading : Reading X) → ((x : X) → 0 < length (spelling x)) → Spells spelling ts reading → Shortens ts reading
+pub shortens_spelled : {X : Type 0} (spelling : X → List Token) (ts : List Token) (reading : Reading X) → ((x : X) → 0 < length (spelling x))
+    → Spells spelling ts reading → Shortens ts reading
 shortens_spelled spelling ts None some one = tt
 shortens_spelled spelling ts (Some found) some one =
     let less = some found.0 in
@@ -106,15 +112,18 @@ pub is_that_word : (word : Word) → (word_number word == word_number word) ≡ 
 is_that_word word = eq-eqb (word_number word) (word_number word) refl
 
 -- one thing behind a keyword
-pub spells_word : {X : Type 0} (word : Word) (spelling : X → List Token) (ts : List Token) (reading : Reading X) → begins (is_word word) ts ≡ true → Spells spelling (rest_of ts) reading → Spells (λ x. token.Keyword word ∷ spelling x) ts reading
+pub spells_word : {X : Type 0} (word : Word) (spelling : X → List Token) (ts : List Token) (reading : Reading X) → begins (is_word word) ts ≡ true
+    → Spells spelling (rest_of ts) reading → Spells (λ x. token.Keyword word ∷ spelling x) ts reading
 spells_word word spelling ts None begun one = tt
 spells_word word spelling ts (Some found) begun one = word_begins word ts begun ∙ ap (λ l. token.Keyword word ∷ l) one
 
 -- and so where the word is looked for
-pub spells_from_word : {X : Type 0} (word : Word) (spelling : X → List Token) (reads : List Token → Reading X) → ((ts : List Token) → Spells spelling ts (reads ts))
+pub spells_from_word : {X : Type 0} (word : Word) (spelling : X → List Token) (reads : List Token → Reading X)
+    → ((ts : List Token) → Spells spelling ts (reads ts))
     → (ts : List Token) → Spells (λ x. token.Keyword word ∷ spelling x) ts (if begins (is_word word) ts then reads (rest_of ts) else None)
 spells_from_word {X} word spelling reads spells ts = by_word (begins (is_word word) ts) refl
   where
-    by_word : (found : Bool) → begins (is_word word) ts ≡ found → Spells (λ (x : X). token.Keyword word ∷ spelling x) ts (if found then reads (rest_of ts) else None)
+    by_word : (found : Bool) → begins (is_word word) ts ≡ found
+        → Spells (λ (x : X). token.Keyword word ∷ spelling x) ts (if found then reads (rest_of ts) else None)
     by_word false is = tt
     by_word true is = spells_word word spelling ts (reads (rest_of ts)) is (spells (rest_of ts))

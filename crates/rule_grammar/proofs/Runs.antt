@@ -26,7 +26,8 @@ run_passes p (suc n) (b ∷ bs) h = cond_both (p b) _ _ (λ m. suc n ≤ m → l
 pub prefix_passes : (p : ℕ → Bool) (bs : List ℕ) → list_all p (take (prefix_len p bs) bs) ≡ true
 prefix_passes p bs = run_passes p (prefix_len p bs) bs (omega arith)
 
-pub prefix_len_few : (p : ℕ → Bool) (most few n : ℕ) (bs : List ℕ) → few ≡ min (length bs) most → n ≡ prefix_len p (take few bs) → (n ≡ min most (prefix_len p bs)) × (n ≤ length bs)
+pub prefix_len_few : (p : ℕ → Bool) (most few n : ℕ) (bs : List ℕ) → few ≡ min (length bs) most → n ≡ prefix_len p (take few bs)
+    → (n ≡ min most (prefix_len p bs)) × (n ≤ length bs)
 prefix_len_few p most few n bs fewer run =
     let short = prefix_len-le-length p bs in
     let taken = prefix_len_take p few bs in

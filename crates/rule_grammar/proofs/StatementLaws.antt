@@ -17,15 +17,23 @@ use Rattle.rule_grammar.specs.declared.token.Token.{Token}
 pub statement_spells : (ts : List Token) → Spells statement_tokens ts (statement_at ts)
 statement_spells ts = by_number (begins (is_word keyword.Number) ts) refl
   where
-    declared : (all : List Token) (reading : Reading Declared) → Spells declaration_tokens all reading → Spells statement_tokens all (then_read reading (λ d left. Some (statement.Declaration d, left)))
+    declared : (all : List Token) (reading : Reading Declared) → Spells declaration_tokens all reading
+        → Spells statement_tokens all (then_read reading (λ d left. Some (statement.Declaration d, left)))
     declared all reading one = spells_as declaration_tokens statement_tokens (λ d. statement.Declaration d) all reading (λ d. refl) one
 
-    by_code : (found : Bool) → begins (is_word keyword.Code) ts ≡ found → Spells statement_tokens ts (if found then then_read (code_field_at (rest_of ts)) (λ d left. Some (statement.Declaration d, left)) else then_read (rule_at ts) (λ r left. Some (statement.Rule r, left)))
-    by_code true is = declared ts (code_field_at (rest_of ts)) (subst (λ all. Spells declaration_tokens all (code_field_at (rest_of ts))) (sym (word_begins keyword.Code ts is)) (code_field_spells (rest_of ts)))
+    by_code : (found : Bool) → begins (is_word keyword.Code) ts ≡ found
+        → Spells statement_tokens ts (if found then then_read (code_field_at (rest_of ts)) (λ d left. Some (statement.Declaration d, left)) else then_read
+        (rule_at ts) (λ r left. Some (statement.Rule r, left)))
+    by_code true is = declared ts (code_field_at (rest_of ts))
+        (subst (λ all. Spells declaration_tokens all (code_field_at (rest_of ts))) (sym (word_begins keyword.Code ts is)) (code_field_spells (rest_of ts)))
     by_code false is = spells_as rule_tokens statement_tokens (λ r. statement.Rule r) ts (rule_at ts) (λ r. refl) (rule_spells ts)
 
-    by_number : (found : Bool) → begins (is_word keyword.Number) ts ≡ found → Spells statement_tokens ts (if found then then_read (number_at (rest_of ts)) (λ d left. Some (statement.Declaration d, left)) else if begins (is_word keyword.Code) ts then then_read (code_field_at (rest_of ts)) (λ d left. Some (statement.Declaration d, left)) else then_read (rule_at ts) (λ r left. Some (statement.Rule r, left)))
-    by_number true is = declared ts (number_at (rest_of ts)) (subst (λ all. Spells declaration_tokens all (number_at (rest_of ts))) (sym (word_begins keyword.Number ts is)) (number_spells (rest_of ts)))
+    by_number : (found : Bool) → begins (is_word keyword.Number) ts ≡ found
+        → Spells statement_tokens ts (if found then then_read (number_at (rest_of ts)) (λ d left. Some (statement.Declaration d, left)) else if begins
+        (is_word keyword.Code) ts then then_read (code_field_at (rest_of ts)) (λ d left. Some (statement.Declaration d, left)) else then_read (rule_at ts)
+        (λ r left. Some (statement.Rule r, left)))
+    by_number true is = declared ts (number_at (rest_of ts))
+        (subst (λ all. Spells declaration_tokens all (number_at (rest_of ts))) (sym (word_begins keyword.Number ts is)) (number_spells (rest_of ts)))
     by_number false is = by_code (begins (is_word keyword.Code) ts) refl
 
 -- its tokens are read as it
@@ -47,7 +55,8 @@ one_statement s t same = ap (told s) (sym (statement_back s) ∙ (ap statement_a
 some_is_not_none : {X : Type 0} (reading : Reading X) (found : X × List Token) → reading ≡ None → reading ≡ Some found → ⊥
 some_is_not_none reading found none some = cc
 
-left_is_not_nothing : {X : Type 0} (reading : Reading X) (x y : X) (first : Token) (left : List Token) → reading ≡ Some (x, first ∷ left) → reading ≡ Some (y, []) → ⊥
+left_is_not_nothing : {X : Type 0} (reading : Reading X) (x y : X) (first : Token) (left : List Token) → reading ≡ Some (x, first ∷ left)
+    → reading ≡ Some (y, []) → ⊥
 left_is_not_nothing {X} reading x y first left some none =
     let same : first ∷ left ≡ [] = ap left_of (sym some ∙ none) in
     cc

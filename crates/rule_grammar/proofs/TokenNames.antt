@@ -45,7 +45,8 @@ second_form : (front back : List Token) → AllByRecursion HasNameForm (front ++
 second_form [] back all = all
 second_form (t ∷ front) back all = second_form front back all.1
 
-codes_form : (codes : List (List ℕ)) (back : List Token) → AllByRecursion HasNameForm (flat_map (λ (code : List ℕ). token.Comma ∷ token.Code code ∷ []) codes ++ back) → All IsCodeText codes
+codes_form : (codes : List (List ℕ)) (back : List Token)
+    → AllByRecursion HasNameForm (flat_map (λ (code : List ℕ). token.Comma ∷ token.Code code ∷ []) codes ++ back) → All IsCodeText codes
 codes_form [] back all = All-nil IsCodeText
 codes_form (code ∷ codes) back all = All-cons IsCodeText code codes all.1.0 (codes_form codes back all.1.1)
 

@@ -13,7 +13,8 @@ use Rattle.edit_model.specs.declared.rule.Compare.{Compare as Comparison}
 use Rattle.rule_grammar.proofs.Keywords.{each_keyword}
 use Rattle.rule_grammar.specs.Names.{IsCodeText}
 pub use Rattle.rule_grammar.specs.Spellings.{keyword_text}
-use Rattle.rule_grammar.specs.Tokens.{Front, after_blanks, decimals_len, front_compare, front_numeral, front_of, is_blank, is_code_byte, is_inside_after, is_word_byte, tokens_within, whole_numeral, with_front, word_token}
+use Rattle.rule_grammar.specs.Tokens.{Front, after_blanks, decimals_len, front_compare, front_numeral, front_of, is_blank, is_code_byte, is_inside_after}
+use Rattle.rule_grammar.specs.Tokens.{is_word_byte, tokens_within, whole_numeral, with_front, word_token}
 use Rattle.rule_grammar.specs.inner.Fronts.{code_len, front_code, front_word, tokens_from, word_len}
 use Rattle.rule_grammar.specs.declared.token.Keyword.{Keyword}
 use Rattle.rule_grammar.specs.declared.token.Keyword.TheVariants as keyword
@@ -81,7 +82,8 @@ no_tokens zero inside text h = refl
 no_tokens (suc n) inside [] h = refl
 no_tokens (suc n) inside (b ∷ bs) h = absurd (omega arith)
 
-pub tokens_within_same : (m n : ℕ) (inside : Bool) (text : List ℕ) → length text ≤ m → length text ≤ n → tokens_within m inside text ≡ tokens_within n inside text
+pub tokens_within_same : (m n : ℕ) (inside : Bool) (text : List ℕ) → length text ≤ m → length text ≤ n
+    → tokens_within m inside text ≡ tokens_within n inside text
 tokens_within_same zero n inside text few_m few_n = sym (no_tokens n inside text few_m)
 tokens_within_same (suc m) zero inside text few_m few_n = no_tokens (suc m) inside text few_n
 tokens_within_same (suc m) (suc n) inside text few_m few_n =
@@ -166,7 +168,17 @@ word_token_by P word at_keyword at_name =
 pub word_token_is : (word : List ℕ) → All (λ w. word ≢ w) reserved_words → word_token word ≡ token.Name word
 word_token_is word free =
     let other = λ (w : List ℕ) (differs : word ≢ w). false_from_ne_true (bytes_eq word w) (λ same. differs ((bytes_eq-Decides word w).0 same)) in
-    rw (other (codes "number") (free 0 [] (omega arith)), other (codes "code") (free 1 [] (omega arith)), other (codes "weight") (free 2 [] (omega arith)), other (codes "scale") (free 3 [] (omega arith)), other (codes "in") (free 4 [] (omega arith)), other (codes "not") (free 5 [] (omega arith)), other (codes "if") (free 6 [] (omega arith)), other (codes "and") (free 7 [] (omega arith)), other (codes "then") (free 8 [] (omega arith))) refl
+    rw (
+      other (codes "number") (free 0 [] (omega arith)),
+      other (codes "code") (free 1 [] (omega arith)),
+      other (codes "weight") (free 2 [] (omega arith)),
+      other (codes "scale") (free 3 [] (omega arith)),
+      other (codes "in") (free 4 [] (omega arith)),
+      other (codes "not") (free 5 [] (omega arith)),
+      other (codes "if") (free 6 [] (omega arith)),
+      other (codes "and") (free 7 [] (omega arith)),
+      other (codes "then") (free 8 [] (omega arith)),
+    ) refl
 
 pub word_token_keyword : (k : Keyword) → word_token (keyword_text k) ≡ token.Keyword k
 word_token_keyword = each_keyword (λ (k : Keyword). word_token (keyword_text k) ≡ token.Keyword k) refl refl refl refl refl refl refl refl refl
@@ -201,24 +213,30 @@ pub front_of_code : (b : ℕ) (bs : List ℕ) → is_code_byte b ≡ true → fr
 front_of_code b bs in_code = rw in_code refl
 
 -- a text whose front is known
-tokens_from_known : (inside : Bool) (b : ℕ) (bs : List ℕ) (t : Token) (rest : List ℕ) → is_blank b ≡ false → front_of inside b bs ≡ record { token = t; rest = rest }
+tokens_from_known : (inside : Bool) (b : ℕ) (bs : List ℕ) (t : Token) (rest : List ℕ) → is_blank b ≡ false
+    → front_of inside b bs ≡ record { token = t; rest = rest }
     → is_inside_after inside t ≡ inside → tokens_from inside (b ∷ bs) ≡ t ∷ tokens_from inside rest
 tokens_from_known inside b bs t rest plain front stays =
-    tokens_from_front inside b bs plain ∙ ap (λ (f : Front). f.token ∷ tokens_from (is_inside_after inside f.token) f.rest) front ∙ ap (λ (i : Bool). t ∷ tokens_from i rest) stays
+    tokens_from_front inside b bs plain ∙ ap (λ (f : Front). f.token ∷ tokens_from (is_inside_after inside f.token) f.rest) front
+    ∙ ap (λ (i : Bool). t ∷ tokens_from i rest) stays
 
-pub tokens_from_word : (b : ℕ) (bs rest : List ℕ) → is_letter b ≡ true → list_all is_word_byte bs ≡ true → length (b ∷ bs) ≤ 32 → prefix_len is_word_byte rest ≡ 0
+pub tokens_from_word : (b : ℕ) (bs rest : List ℕ) → is_letter b ≡ true → list_all is_word_byte bs ≡ true → length (b ∷ bs) ≤ 32
+    → prefix_len is_word_byte rest ≡ 0
     → tokens_from false ((b ∷ bs) ++ rest) ≡ word_token (b ∷ bs) ∷ tokens_from false rest
 tokens_from_word b bs rest letter all short ends =
     let word : list_all is_word_byte (b ∷ bs) ≡ true = rw (letter_is_word b letter) all in
-    tokens_from_known false b (bs ++ rest) (word_token (b ∷ bs)) rest (letter_is_no_blank b letter) (front_of_word b (bs ++ rest) letter ∙ front_word_is (b ∷ bs) rest word short ends) (word_stays (b ∷ bs))
+    tokens_from_known false b (bs ++ rest) (word_token (b ∷ bs)) rest (letter_is_no_blank b letter)
+    (front_of_word b (bs ++ rest) letter ∙ front_word_is (b ∷ bs) rest word short ends) (word_stays (b ∷ bs))
 
-pub tokens_from_name : (name rest : List ℕ) → IsName name → prefix_len is_word_byte rest ≡ 0 → tokens_from false (name ++ rest) ≡ token.Name name ∷ tokens_from false rest
+pub tokens_from_name : (name rest : List ℕ) → IsName name → prefix_len is_word_byte rest ≡ 0
+    → tokens_from false (name ++ rest) ≡ token.Name name ∷ tokens_from false rest
 tokens_from_name [] rest name ends = absurd (omega (arith, name.size.0))
 tokens_from_name (b ∷ bs) rest name ends =
     let form = and_parts (is_letter b) (list_all is_word_byte bs) name.form in
     tokens_from_word b bs rest form.0 form.1 name.size.1 ends ∙ ap (λ (t : Token). t ∷ tokens_from false rest) (word_token_is (b ∷ bs) name.free)
 
-pub tokens_from_keyword : (k : Keyword) (rest : List ℕ) → prefix_len is_word_byte rest ≡ 0 → tokens_from false (keyword_text k ++ rest) ≡ token.Keyword k ∷ tokens_from false rest
+pub tokens_from_keyword : (k : Keyword) (rest : List ℕ) → prefix_len is_word_byte rest ≡ 0
+    → tokens_from false (keyword_text k ++ rest) ≡ token.Keyword k ∷ tokens_from false rest
 tokens_from_keyword keyword.Number rest ends = tokens_from_word 110 (codes "umber") rest refl refl (omega arith) ends
 tokens_from_keyword keyword.Code rest ends = tokens_from_word 99 (codes "ode") rest refl refl (omega arith) ends
 tokens_from_keyword keyword.Weight rest ends = tokens_from_word 119 (codes "eight") rest refl refl (omega arith) ends
@@ -229,15 +247,18 @@ tokens_from_keyword keyword.If rest ends = tokens_from_word 105 (codes "f") rest
 tokens_from_keyword keyword.And rest ends = tokens_from_word 97 (codes "nd") rest refl refl (omega arith) ends
 tokens_from_keyword keyword.Then rest ends = tokens_from_word 116 (codes "hen") rest refl refl (omega arith) ends
 
-pub tokens_from_code : (code rest : List ℕ) → IsCodeText code → prefix_len is_code_byte rest ≡ 0 → tokens_from true (code ++ rest) ≡ token.Code code ∷ tokens_from true rest
+pub tokens_from_code : (code rest : List ℕ) → IsCodeText code → prefix_len is_code_byte rest ≡ 0
+    → tokens_from true (code ++ rest) ≡ token.Code code ∷ tokens_from true rest
 tokens_from_code [] rest code ends = absurd (omega (arith, code.1))
 tokens_from_code (b ∷ bs) rest code ends =
     let first = and_parts (is_code_byte b) (list_all is_code_byte bs) code.0 in
-    tokens_from_known true b (bs ++ rest) (token.Code (b ∷ bs)) rest (code_byte_is_no_blank b first.0) (front_of_code b (bs ++ rest) first.0 ∙ front_code_is (b ∷ bs) rest code.0 code.2 ends) refl
+    tokens_from_known true b (bs ++ rest) (token.Code (b ∷ bs)) rest (code_byte_is_no_blank b first.0)
+    (front_of_code b (bs ++ rest) first.0 ∙ front_code_is (b ∷ bs) rest code.0 code.2 ends) refl
 
 pub tokens_from_numeral : (digits rest : List ℕ) → 1 ≤ length digits → list_all is_digit digits ≡ true → prefix_len is_digit rest ≡ 0 → decimals_len rest ≡ 0
     → tokens_from false (digits ++ rest) ≡ token.Numeral (whole_numeral digits) ∷ tokens_from false rest
 tokens_from_numeral [] rest some all ends no_point = absurd (omega arith)
 tokens_from_numeral (b ∷ bs) rest some all ends no_point =
     let first = and_parts (is_digit b) (list_all is_digit bs) all in
-    tokens_from_known false b (bs ++ rest) (token.Numeral (whole_numeral (b ∷ bs))) rest (digit_is_no_blank b first.0) (front_of_numeral b (bs ++ rest) first.0 ∙ front_numeral_is (b ∷ bs) rest all ends no_point) refl
+    tokens_from_known false b (bs ++ rest) (token.Numeral (whole_numeral (b ∷ bs))) rest (digit_is_no_blank b first.0)
+    (front_of_numeral b (bs ++ rest) first.0 ∙ front_numeral_is (b ∷ bs) rest all ends no_point) refl

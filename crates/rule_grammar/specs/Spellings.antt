@@ -1,5 +1,6 @@
 -- Which bytes spell which token, and how a text falls into tokens: each is the longest that can be read.
-use Rattle.std.specs.Prelude.{◌≡◌, ℕ, ◌<◌, ◌≤◌, ◌^◌, ◌==◌, ◌||◌, ◌⊎◌, Bool, true, false, List, [], ◌∷◌, ◌++◌, length, codes, IsTrue, IsFalse}
+use Rattle.std.specs.Prelude.{◌≡◌, ℕ, ◌<◌, ◌≤◌, ◌^◌, ◌==◌, ◌||◌, ◌⊎◌, Bool, true, false, List, [], ◌∷◌, ◌++◌, length, codes, IsTrue}
+use Rattle.std.specs.Prelude.{IsFalse}
 use Rattle.std.specs.List.{list_all}
 use Rattle.std.specs.Str.Parse.{digits_value}
 use Rattle.edit_model.specs.Surveys.{IsName, is_digit, is_letter}
@@ -16,6 +17,7 @@ use Rattle.rule_grammar.specs.declared.token.Sign.TheVariants as sign
 use Rattle.rule_grammar.specs.declared.token.Token.{Token}
 use Rattle.rule_grammar.specs.declared.token.Token.TheVariants as token
 
+-- the bytes of a keyword
 abbrev pub keyword_text : Word → List ℕ
 keyword_text keyword.Number = codes "number"
 keyword_text keyword.Code = codes "code"
@@ -27,6 +29,7 @@ keyword_text keyword.If = codes "if"
 keyword_text keyword.And = codes "and"
 keyword_text keyword.Then = codes "then"
 
+-- the bytes of a comparison
 abbrev pub compare_text : Comparison → List ℕ
 compare_text Ge = codes ">="
 compare_text Gt = codes ">"
@@ -34,6 +37,7 @@ compare_text Le = codes "<="
 compare_text Lt = codes "<"
 compare_text Eq = codes "="
 
+-- the byte of a sign
 abbrev pub sign_text : Direction → List ℕ
 sign_text sign.Plus = codes "+"
 sign_text sign.Minus = codes "-"

@@ -1,5 +1,6 @@
 -- The tokens of a line's text, from left to right; each is the longest that can be read.
-use Rattle.std.specs.Prelude.{ℕ, zero, suc, ◌==◌, ◌||◌, ◌+◌, ◌^◌, min, Bool, true, false, List, [], ◌∷◌, length, take, drop, nat_le, codes, if◌then◌else◌}
+use Rattle.std.specs.Prelude.{ℕ, zero, suc, ◌==◌, ◌||◌, ◌+◌, ◌^◌, min, Bool, true, false, List, [], ◌∷◌, length, take, drop, nat_le, codes}
+use Rattle.std.specs.Prelude.{if◌then◌else◌}
 use Rattle.std.specs.List.{prefix_len}
 use Rattle.std.specs.Str.{bytes_eq}
 use Rattle.std.specs.Str.Parse.{digits_value}

@@ -1,4 +1,5 @@
-//! The tokens of a text, read one after another. No memory.
+//! The tokens of a text, read one after another, each when the parser takes the one before. Whether a byte
+//! is part of a code depends on whether it stands inside braces, so the cursor keeps that. No memory.
 ghost use Rattle.std.specs.Prelude.{◌≡◌, List, [], ◌∷◌, IfSome, IfNone};
 ghost use Rattle.rule_grammar.specs.Tokens.{is_inside_after, tokens_of};
 ghost use Rattle.rule_grammar.specs.inner.Fronts.{tokens_from};
@@ -15,7 +16,8 @@ use crate::token::Token;
 use lexeme::first_lexeme;
 use std::marker::Model;
 
-/// The tokens that are still to be read. The first of them is read ahead.
+/// The tokens that are still to be read. The first of them is read ahead; where there is none, the text has
+/// ended.
 #[derive(Drop)]
 pub(crate) struct Cursor<'a> {
     next: Option<Token>,
@@ -35,14 +37,14 @@ impl<'a> Model for Cursor<'a> {
 }
 
 impl<'a> Cursor<'a> {
-    /// The tokens of a line's text.
+    /// The tokens of a line's text, which begins outside braces.
     pub(crate) fn new(text: &'a [u8]) -> Cursor<'a>
         ensures { result ≡ tokens_of text.now }
     {
         Cursor::begin(false, text)
     }
 
-    /// The next token, which stays.
+    /// The next token, which is not taken off, or None at the end of the text.
     pub(crate) fn front(&self) -> Option<&Token>
         ensures some { IfSome result (λ t. (rest : List AnyToken) × (self.now ≡ t.now ∷ rest)) }
         ensures none { IfNone result (self.now ≡ []) }
@@ -50,7 +52,7 @@ impl<'a> Cursor<'a> {
         self.next.as_ref()
     }
 
-    /// The next token, which is taken.
+    /// Takes off the next token, or answers None at the end of the text.
     pub(crate) fn take(&mut self) -> Option<Token>
         ensures some { IfSome result (λ t. self.old ≡ t ∷ self.new) }
         ensures none { IfNone result ((self.old ≡ []) × (self.new ≡ [])) }
@@ -64,7 +66,7 @@ impl<'a> Cursor<'a> {
         }
     }
 
-    // The tokens of a text that begins inside braces, or outside.
+    // The tokens of a text that begins inside braces, or outside. The first one is read ahead here.
     fn begin(inside: bool, text: &'a [u8]) -> Cursor<'a>
         ensures { result ≡ tokens_from inside text.now }
     {
@@ -86,7 +88,8 @@ impl<'a> Cursor<'a> {
     }
 }
 
-// Whether what follows the token stands inside braces.
+// Whether what follows the token stands inside braces. Behind an opening brace it does, and behind a
+// closing one it doesn't. Behind any other token it is as before (`inside`).
 fn is_inside_after(inside: bool, token: &Token) -> bool
     ensures { result ≡ is_inside_after inside token.now }
 {

@@ -1,3 +1,5 @@
+//! The text of a line, read: it is empty, or a statement, or neither. In contracts, `AreLongestTokens` takes
+//! first whether the text begins inside braces; that of a line does not.
 ghost use Rattle.std.specs.Prelude.{IfOk, OnOk, false};
 ghost use Rattle.rule_grammar.specs.LineTexts.{IsLineText};
 ghost use Rattle.rule_grammar.specs.Spellings.{AreLongestTokens};
@@ -20,7 +22,9 @@ pub enum LineText {
     Unreadable,
 }
 
-/// Reads the text of a line: what stands before its comment. Its tokens are the longest that can be read.
+/// Reads the text of a line, of which the caller has cut off the comment. `Unreadable` where it is no
+/// statement, or tokens are left behind one. Each token of the text, from left to right, is the longest
+/// that can be read there. Refused for want of memory alone.
 #[tactic(auto, using(crate::proofs::LineLaws::line_answers, crate::proofs::LongestTokens::tokens_are_longest))]
 pub fn read_line(alloc: Global, text: &[u8]) -> Result<LineText, OutOfMemory>
     ensures text { IfOk result (λ line. IsLineText text.now line) }

@@ -3,7 +3,7 @@ use crate::token::{Numeral, Sign};
 use edit_model::{Compare, Name};
 use foundation::Sequence;
 
-/// One term of a sum: `2 A` or `2 * A`, `A`, or `2`.
+/// One term of a sum: `2 A` or `2 * A`, `A`, or `2`. Its sign stands outside of it.
 #[derive(Debug, Drop)]
 pub enum TermText {
     /// A factor and a field, with a `*` between them or not.

@@ -1,3 +1,4 @@
+//! Tokens: the smallest pieces of a line, which the cursor gives and the parser takes.
 use edit_model::{Compare, Name};
 
 /// A word of the language, which names no field.

@@ -13,10 +13,12 @@ use Rattle.rule_grammar.specs.declared.statement.Statement.{Statement as Written
 use Rattle.rule_grammar.specs.declared.statement.Statement.TheVariants as statement
 use Rattle.rule_grammar.specs.declared.statement.TestText.{TestText}
 use Rattle.rule_grammar.specs.declared.statement.TestText.TheVariants as written
-use Rattle.edit_language.specs.Faults.{are_known_codes, has_double, has_double_code, has_fault, has_rule_form, is_known_test, is_large_test, is_outside, kind_number, tests_in}
+use Rattle.edit_language.specs.Faults.{are_known_codes, has_double, has_double_code, has_fault, has_rule_form, is_known_test, is_large_test}
+use Rattle.edit_language.specs.Faults.{is_outside, kind_number, tests_in}
 use Rattle.edit_language.specs.Meaning.{listed}
 use Rattle.edit_language.specs.declared.fault.RulesKind.{RulesKind}
-use Rattle.edit_language.specs.declared.fault.RulesKind.TheVariants.{UnknownField, DoubleField, UnknownCode, DoubleCode, NumberRange, TooMany, ConditionForm}
+use Rattle.edit_language.specs.declared.fault.RulesKind.TheVariants.{UnknownField, DoubleField, UnknownCode, DoubleCode, NumberRange}
+use Rattle.edit_language.specs.declared.fault.RulesKind.TheVariants.{TooMany, ConditionForm}
 
 -- all tests of a rule
 abbrev pub tests_of : RuleText → List TestText

@@ -1,4 +1,4 @@
-//! Lists of codes between braces.
+//! Lists of codes, as they are printed between braces.
 ghost use Rattle.std.specs.Prelude.{◌≡◌, ◌==◌, ◌++◌, Bool, List, [], codes, if◌then◌else◌, OnOk};
 ghost use Rattle.std.specs.Int.{bit_at};
 ghost use Rattle.edit_language.specs.Printing.{braced, codes_of_set};
@@ -6,7 +6,7 @@ ghost use Rattle.edit_language.specs.Printing.{braced, codes_of_set};
 use edit_model::Name;
 use foundation::OutOfMemory;
 
-// Appends all codes, between braces.
+// Appends all codes of the list, as `{x, y}`.
 pub(super) fn write_all(text: &mut Vec<u8>, list: &[Name]) -> Result<(), OutOfMemory>
     ensures { OnOk result (text.new.items ≡ text.old.items ++ braced list.now) }
 {
@@ -18,7 +18,8 @@ pub(super) fn write_all(text: &mut Vec<u8>, list: &[Name]) -> Result<(), OutOfMe
     Ok(())
 }
 
-// Appends the codes that are in the set, between braces.
+// Appends those codes of the list that are in the set, as `{x, y}`. Bit c of the set stands for the code
+// of number c.
 pub(super) fn write_set(text: &mut Vec<u8>, list: &[Name], set: u64) -> Result<(), OutOfMemory>
     ensures { OnOk result (text.new.items ≡ text.old.items ++ braced (codes_of_set set 0 list.now)) }
 {
@@ -34,7 +35,7 @@ pub(super) fn write_set(text: &mut Vec<u8>, list: &[Name], set: u64) -> Result<(
     Ok(())
 }
 
-// Appends a code; before all but the first stands a comma.
+// Appends a code, and a comma before it unless it is the first that is printed.
 fn write_item(text: &mut Vec<u8>, first: bool, code: &Name) -> Result<(), OutOfMemory>
     ensures { OnOk result (text.new.items ≡ text.old.items ++ (if first then [] else codes ", ") ++ code.now) }
 {
@@ -45,7 +46,7 @@ fn write_item(text: &mut Vec<u8>, first: bool, code: &Name) -> Result<(), OutOfM
     Ok(())
 }
 
-// Whether the set, as bits, has the code of this number.
+// Whether the set, as bits, has the code of this number. From 64 on it has none.
 fn is_in(set: u64, code: usize) -> bool
     ensures { result ≡ (bit_at set code == 1) }
 {

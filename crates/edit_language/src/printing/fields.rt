@@ -1,4 +1,4 @@
-//! Declarations.
+//! Declarations of fields, as they are printed.
 ghost use Rattle.std.specs.Prelude.{◌≡◌, ◌++◌, OnOk};
 ghost use Rattle.edit_language.specs.Printing.{field_line, kind_text, kind_word};
 
@@ -7,7 +7,8 @@ use super::sums::write_number;
 use edit_model::{Field, Kind};
 use foundation::OutOfMemory;
 
-// Appends the field's declaration; weight and scale are always written.
+// Appends the field's declaration, as `number A weight 1 scale 1`, without a line feed. Its weight is
+// always written, also 1, and so is the scale of a numerical field.
 pub(super) fn write_field(text: &mut Vec<u8>, field: &Field) -> Result<(), OutOfMemory>
     ensures { OnOk result (text.new.items ≡ text.old.items ++ field_line field.now) }
 {
@@ -28,7 +29,8 @@ fn kind_word(kind: &Kind) -> &'static [u8]
     }
 }
 
-// Appends what stands behind a field's weight.
+// Appends what stands behind a field's weight: the scale of a numerical field, or the codes of a
+// categorical one.
 fn write_kind(text: &mut Vec<u8>, kind: &Kind) -> Result<(), OutOfMemory>
     ensures { OnOk result (text.new.items ≡ text.old.items ++ kind_text kind.now) }
 {

@@ -1,4 +1,4 @@
-//! Rules and their tests.
+//! Rules and their tests, as they are printed.
 ghost use Rattle.std.specs.Prelude.{◌≡◌, ◌++◌, slice_get, IfOk, OnOk};
 ghost use Rattle.edit_language.specs.Meaning.{kind_codes, field_codes};
 ghost use Rattle.edit_language.specs.Printing.{conditions_text, later_conditions_text, rule_line, test_text};
@@ -9,7 +9,8 @@ use edit_model::{Field, Kind, Name, Rule, Test};
 use foundation::OutOfMemory;
 use std::alloc::Global;
 
-/// The text of a rule over these fields, as it stands in a line of a printed survey.
+/// The text of a rule over these fields, as its line in a printed survey, without the line feed. A field
+/// number past `fields` is printed as no name.
 pub fn rule_text(alloc: Global, fields: &[Field], rule: &Rule) -> Result<Vec<u8>, OutOfMemory>
     ensures { IfOk result (λ text. text.items ≡ rule_line fields.now rule.now) }
 {
@@ -18,7 +19,7 @@ pub fn rule_text(alloc: Global, fields: &[Field], rule: &Rule) -> Result<Vec<u8>
     Ok(text)
 }
 
-// Appends the rule.
+// Appends the rule, without a line feed: its conditions, if it has some, and its conclusion.
 pub(super) fn write_rule(
     text: &mut Vec<u8>,
     fields: &[Field],
@@ -30,7 +31,8 @@ pub(super) fn write_rule(
     write_test(text, fields, &rule.conclusion)
 }
 
-/// The conditions of a rule over these fields, between `if` and `then`; nothing where there is none.
+/// The conditions of a rule over these fields, as `if A in {x} then ` with the blank at its end. Nothing
+/// where there is none.
 pub fn conditions_text(
     alloc: Global,
     fields: &[Field],
@@ -43,7 +45,8 @@ pub fn conditions_text(
     Ok(text)
 }
 
-// Appends the conditions of a rule, between `if` and `then`; nothing where there is none.
+// Appends the conditions of a rule, as `if A in {x} then ` with the blank at its end. Nothing where there
+// is none.
 fn write_conditions(
     text: &mut Vec<u8>,
     fields: &[Field],
@@ -63,7 +66,7 @@ fn write_conditions(
     }
 }
 
-// Appends the conditions behind the first.
+// Appends the conditions behind the first, each with ` and ` before it.
 fn write_later_conditions(
     text: &mut Vec<u8>,
     fields: &[Field],
@@ -78,7 +81,7 @@ fn write_later_conditions(
     Ok(())
 }
 
-// Appends the test.
+// Appends the test: a linear one, or one such as `A in {x, y}` or `A not in {x}`.
 fn write_test(text: &mut Vec<u8>, fields: &[Field], test: &Test) -> Result<(), OutOfMemory>
     ensures { OnOk result (text.new.items ≡ text.old.items ++ test_text fields.now test.now) }
 {
@@ -97,7 +100,8 @@ fn write_test(text: &mut Vec<u8>, fields: &[Field], test: &Test) -> Result<(), O
     }
 }
 
-// The codes of the field with this number; none where it is numerical.
+// The codes of the field with this number. There are none where it is numerical, or where no field has the
+// number.
 fn codes_at(fields: &[Field], number: u32) -> &[Name]
     ensures { result.now ≡ field_codes (slice_get fields.now number) }
 {

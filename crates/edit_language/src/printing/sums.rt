@@ -1,14 +1,16 @@
-//! Sums of terms and their comparison with 0.
+//! Sums of terms and their comparison with 0, as they are printed. Edits that are no rule of a survey are
+//! printed by the same parts.
 ghost use Rattle.std.specs.Prelude.{◌≡◌, ◌++◌, OnErr, OnOk, if◌then◌else◌, unsigned_abs};
 ghost use Rattle.std.specs.Fmt.{decimal, signed_decimal};
 ghost use Rattle.std.specs.Io.{StartsWith};
-ghost use Rattle.edit_language.specs.Printing.{compare_text, joint_text, later_constant_text, later_terms_text, lead_text, linear_text, name_at, product_text, sign_text, sum_text, terms_text, whole_term_text};
+ghost use Rattle.edit_language.specs.Printing.{compare_text, joint_text, later_constant_text, later_terms_text, lead_text, linear_text};
+ghost use Rattle.edit_language.specs.Printing.{name_at, product_text, sign_text, sum_text, terms_text, whole_term_text};
 
 use edit_model::{Compare, Field, Linear, Term};
 use foundation::OutOfMemory;
 use itoa::Buffer;
 
-// Appends the linear test.
+// Appends the linear test: its sum, and its comparison with 0, as `2 A - B + 3 >= 0`.
 pub(super) fn write_linear(
     text: &mut Vec<u8>,
     fields: &[Field],
@@ -21,9 +23,9 @@ pub(super) fn write_linear(
     Ok(())
 }
 
-/// Appends a term of a sum: the sign of its factor, the factor where it is not 1 or -1, and the name of the
-/// field with this number. The sign of the first term is a minus or nothing; that of a later one joins it to
-/// the term before. Where memory is refused, the text is as before.
+/// Appends a term of a sum: a sign, the `factor` without it unless that is 1, and the name of the field of
+/// number `field`. The sign of the `first` term is a minus or nothing; that of a later one joins it to the
+/// term before. Where memory is refused, the text is as before.
 pub fn write_term(
     text: &mut Vec<u8>,
     first: bool,
@@ -42,8 +44,9 @@ pub fn write_term(
     written
 }
 
-/// Appends the constant of a sum: with its sign where it stands alone, and else behind the terms, where it is
-/// not 0. Where memory is refused, the text is as before.
+/// Appends the constant of a sum. Where it stands `alone`, it is written in decimal, also 0, with a minus
+/// where it is below 0. Behind terms it is written only where it is not 0. Where memory is refused, the
+/// text is as before.
 pub fn write_constant(text: &mut Vec<u8>, alone: bool, constant: i128) -> Result<(), OutOfMemory>
     ensures written { OnOk result (text.new.items
         ≡ text.old.items ++ (if alone then signed_decimal constant else later_constant_text constant)) }
@@ -58,7 +61,7 @@ pub fn write_constant(text: &mut Vec<u8>, alone: bool, constant: i128) -> Result
     }
 }
 
-/// The comparison of a sum with 0.
+/// The comparison of a sum with 0, with the blank before it, as ` >= 0`.
 pub fn compare_text(compare: Compare) -> &'static [u8]
     ensures { result.now ≡ compare_text compare }
 {
@@ -81,7 +84,7 @@ pub(super) fn write_number(text: &mut Vec<u8>, number: u128) -> Result<(), OutOf
     Ok(())
 }
 
-// The name of the field with this number.
+// The name of the field with this number, or nothing where no field has it.
 pub(super) fn name_at(fields: &[Field], number: u32) -> &[u8]
     ensures { result.now ≡ name_at fields.now number }
 {
@@ -91,7 +94,8 @@ pub(super) fn name_at(fields: &[Field], number: u32) -> &[u8]
     }
 }
 
-// Appends the terms in order and then the constant; the constant alone where there is no term.
+// Appends the terms in order and then the constant, as `2 A - B + 3`. Behind terms a constant 0 is not
+// written. Where there is no term, the constant stands alone, also 0.
 fn write_sum(
     text: &mut Vec<u8>,
     fields: &[Field],
@@ -109,7 +113,8 @@ fn write_sum(
     }
 }
 
-// Appends the terms in order.
+// Appends the first term and those behind it. They are apart since the first alone has no sign that joins
+// it to others.
 fn write_terms(
     text: &mut Vec<u8>,
     fields: &[Field],
@@ -122,7 +127,7 @@ fn write_terms(
     write_later_terms(text, fields, rest)
 }
 
-// Appends the terms behind the first.
+// Appends the terms behind the first, each with the sign that joins it to those before.
 fn write_later_terms(
     text: &mut Vec<u8>,
     fields: &[Field],
@@ -136,7 +141,8 @@ fn write_later_terms(
     Ok(())
 }
 
-// Appends a constant behind terms, where it is not 0. Where memory is refused, the text is as before.
+// Appends a constant behind terms, as ` + 3`, where it is not 0. Where memory is refused, the text is as
+// before.
 fn write_later_constant(text: &mut Vec<u8>, constant: i128) -> Result<(), OutOfMemory>
     ensures written { OnOk result (text.new.items ≡ text.old.items ++ later_constant_text constant) }
     ensures refused { OnErr result (text.new.items ≡ text.old.items) }
@@ -153,8 +159,8 @@ fn write_later_constant(text: &mut Vec<u8>, constant: i128) -> Result<(), OutOfM
     written
 }
 
-// Appends the sign of a term, its factor and the name of its field. Where memory is refused, some of it may stand behind
-// what stood before.
+// Appends a term as `write_term` does: its sign, its factor and the name of its field. Where memory is
+// refused, some of it may stand behind what stood before.
 fn append_term(
     text: &mut Vec<u8>,
     first: bool,
@@ -182,7 +188,8 @@ fn write_product(text: &mut Vec<u8>, factor: u128, name: &[u8]) -> Result<(), Ou
     Ok(())
 }
 
-// What stands before a number: its sign, or what joins it to the terms before it.
+// What stands before the number of a term: its sign where it is `first`, and else what joins it to the
+// terms before.
 fn lead_text(first: bool, number: i128) -> &'static [u8]
     ensures { result.now ≡ lead_text first number }
 {
@@ -193,14 +200,14 @@ fn lead_text(first: bool, number: i128) -> &'static [u8]
     }
 }
 
-// The sign in front of a number.
+// The sign in front of a sum: a minus, or nothing.
 fn sign_text(number: i128) -> &'static [u8]
     ensures { result.now ≡ sign_text number }
 {
     if number < 0 { b"-" } else { b"" }
 }
 
-// What joins a number to the terms before it.
+// What joins a number to the terms before it: a plus, also for 0, or a minus.
 fn joint_text(number: i128) -> &'static [u8]
     ensures { result.now ≡ joint_text number }
 {

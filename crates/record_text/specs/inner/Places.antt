@@ -1,8 +1,11 @@
+-- Where csv's reader stands in a file, and what is read from there on. Private contracts alone cite this page.
 use Rattle.std.specs.Prelude.{◌≡◌, ℕ, Bool, true, false, List, [], Option, Some, None}
 use Rattle.std.specs.Borrow.{Bor}
 use Rattle.csv.specs.Machine.{next_record}
 use Rattle.csv.specs.Reading.{AreRecords, Ready, default_config, is_flexible, reader_config, reader_state, reader_trim, source_of}
+use Rattle.csv.specs.Reading.{strip_bom}
 use Rattle.csv.specs.declared.parser.State.{State}
+use Rattle.csv.specs.declared.parser.State.TheVariants as st
 use Rattle.csv.specs.declared.reader.Reader.{Reader}
 use Rattle.csv.specs.declared.reader.Trim.TheVariants as trim
 use Rattle.edit_model.specs.declared.field.Field.{Field}
@@ -19,6 +22,10 @@ use Rattle.record_text.specs.declared.table_fault.TableFault.TheVariants as tabl
 pub record Place : Type 0 where
   pub state : State
   pub left : List ℕ
+
+-- the place before the first record of these bytes; one byte order mark is taken off before, and csv takes off one more
+abbrev pub start_of : List ℕ → Place
+start_of bytes = record { state = st.StartRecord; left = strip_bom (strip_bom bytes) }
 
 -- csv's reader stands at the place; it reads by its default settings, but for records that may differ in length, and takes
 -- the first record as any other

@@ -1,3 +1,4 @@
+-- csv's writer, between two records. Private contracts alone cite this page.
 use Rattle.std.specs.Prelude.{◌≡◌, ℕ, true, false, [], Vec}
 use Rattle.std.specs.declared.alloc.Global.{Global}
 use Rattle.csv.specs.Writing.{default_writer, fields_written, has_written, with_flexible, writer_pending, writer_setup}

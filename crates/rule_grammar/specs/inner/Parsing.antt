@@ -1,5 +1,6 @@
 -- How the parser reads a statement off a list of tokens, one production after another. The grammar itself is in `Statements`.
-use Rattle.std.specs.Prelude.{◌≡◌, ℕ, zero, suc, ◌==◌, Bool, true, false, Option, Some, None, Result, Ok, Err, List, [], ◌∷◌, length, if◌then◌else◌}
+use Rattle.std.specs.Prelude.{◌≡◌, ℕ, zero, suc, ◌==◌, Bool, true, false, Option, Some, None, Result, Ok, Err, List, [], ◌∷◌, length}
+use Rattle.std.specs.Prelude.{if◌then◌else◌}
 use Rattle.edit_model.specs.declared.rule.Compare.{Compare as Comparison}
 use Rattle.rule_grammar.specs.declared.parser.fault.Fault.{Fault as Stop}
 use Rattle.rule_grammar.specs.declared.parser.fault.Fault.TheVariants as stop

@@ -1,4 +1,8 @@
-//! The first token of a text.
+//! The first token of a text, and the text after it. Inside braces a text falls into codes and marks, and
+//! outside into words, numerals and marks.
+//!
+//! In contracts, `tokens_from inside` are the tokens of a text that begins inside braces, or outside.
+//! `IsFrontOf inside` says that these are the token at the front of such a text, and the text behind it.
 ghost use Rattle.std.specs.Prelude.{◌≡◌, [], ◌∷◌, IfSome, IfNone, false, true};
 ghost use Rattle.rule_grammar.specs.inner.Cursors.{IsFrontOf};
 ghost use Rattle.rule_grammar.specs.Tokens.{after_blanks, is_inside_after};
@@ -19,7 +23,8 @@ pub(super) struct Lexeme<'a> {
     pub(super) rest: &'a [u8],
 }
 
-/// The first token of a text that begins inside braces or outside, or None where it has no token.
+/// The first token of a text that begins inside braces (`inside`) or outside, with the text after it. None
+/// where the text has no token: it is blanks alone, or empty.
 pub(super) fn first_lexeme<'a>(inside: bool, text: &'a [u8]) -> Option<Lexeme<'a>>
     ensures some { IfSome result (λ l. tokens_from inside text.now
         ≡ l.token ∷ tokens_from (is_inside_after inside l.token) l.rest.now) }
@@ -40,7 +45,8 @@ fn without_blanks<'a>(text: &'a [u8]) -> &'a [u8]
     &text[blanks_len(text)..]
 }
 
-// The lexeme at the front of a text outside braces that begins with no blank.
+// The token at the front of a text outside braces, which begins with no blank. None where the text is
+// empty. The first byte tells the kind of the token.
 fn lexeme_outside<'a>(text: &'a [u8]) -> Option<Lexeme<'a>>
     ensures some { IfSome result (λ l. IsFrontOf false text.now l.token l.rest.now) }
     ensures none { IfNone result (text.now ≡ []) }
@@ -66,7 +72,7 @@ fn lexeme_outside<'a>(text: &'a [u8]) -> Option<Lexeme<'a>>
     }
 }
 
-// The lexeme at the front of a text inside braces that begins with no blank.
+// The token at the front of a text inside braces, which begins with no blank. None where the text is empty.
 fn lexeme_in_braces<'a>(text: &'a [u8]) -> Option<Lexeme<'a>>
     ensures some { IfSome result (λ l. IsFrontOf true text.now l.token l.rest.now) }
     ensures none { IfNone result (text.now ≡ []) }

@@ -1,4 +1,6 @@
-//! Comparisons, signs and the other marks.
+//! Tokens that no letter and no digit begins: comparisons, signs and the other marks.
+//!
+//! In contracts, `IsFront` says that these are the token and the text behind it.
 ghost use Rattle.std.specs.Prelude.{◌≡◌};
 ghost use Rattle.rule_grammar.specs.inner.Cursors.{IsFront};
 ghost use Rattle.rule_grammar.specs.Tokens.{front_compare, list_mark_token, mark_token};
@@ -7,7 +9,8 @@ use super::lexeme::Lexeme;
 use crate::token::{Sign, Token};
 use edit_model::Compare;
 
-/// The comparison whose first byte stands before the text: the wide one where `=` follows.
+/// The comparison whose first byte, `<` or `>`, stands before the text. It is `wide` where `=` follows,
+/// which is then taken as well, and else `strict`.
 pub(super) fn first_compare<'a>(wide: Compare, strict: Compare, text: &'a [u8]) -> Lexeme<'a>
     ensures { IsFront (front_compare wide strict text.now) result.token result.rest.now }
 {
@@ -23,7 +26,8 @@ pub(super) fn first_compare<'a>(wide: Compare, strict: Compare, text: &'a [u8]) 
     }
 }
 
-/// The token of one byte outside braces.
+/// The token of one byte outside braces; `<` and `>` don't come here. A byte that is no mark is a stray
+/// one, which no statement takes.
 pub(super) fn mark_token(byte: u8) -> Token
     ensures { result ≡ mark_token byte }
 {
@@ -37,7 +41,8 @@ pub(super) fn mark_token(byte: u8) -> Token
     }
 }
 
-/// The token of one byte inside braces.
+/// The token of one byte inside braces. A byte that is no mark there is a stray one, which no statement
+/// takes.
 pub(super) fn list_mark_token(byte: u8) -> Token
     ensures { result ≡ list_mark_token byte }
 {

@@ -26,7 +26,8 @@ pub(super) fn digits_len(text: &[u8]) -> usize
     text.iter().take_while(|b| is_digit(**b)).count()
 }
 
-/// How many bytes the word at the front has. None is looked at past the longest.
+/// How many bytes the word at the front has, at most 32. What follows in a longer run begins a token of its
+/// own, so no byte behind these is looked at.
 pub(super) fn word_len(text: &[u8]) -> usize
     ensures count { result ≡ word_len text.now }
     ensures within { result ≤ length text.now }
@@ -34,7 +35,8 @@ pub(super) fn word_len(text: &[u8]) -> usize
     word_bytes_len(&text[..text.len().min(LONGEST)])
 }
 
-/// How many bytes the code at the front has. None is looked at past the longest.
+/// How many bytes the code at the front has, at most 32. What follows in a longer run begins a token of its
+/// own, so no byte behind these is looked at.
 pub(super) fn code_len(text: &[u8]) -> usize
     ensures count { result ≡ code_len text.now }
     ensures within { result ≤ length text.now }
@@ -42,14 +44,14 @@ pub(super) fn code_len(text: &[u8]) -> usize
     code_bytes_len(&text[..text.len().min(LONGEST)])
 }
 
-// How many bytes of words there are at the front.
+// How many bytes of the kind that words have stand at the front, without a limit.
 fn word_bytes_len(text: &[u8]) -> usize
     ensures { result ≡ prefix_len is_word_byte text.now }
 {
     text.iter().take_while(|b| is_word_byte(**b)).count()
 }
 
-// How many bytes of codes there are at the front.
+// How many bytes of the kind that codes have stand at the front, without a limit.
 fn code_bytes_len(text: &[u8]) -> usize
     ensures { result ≡ prefix_len is_code_byte text.now }
 {

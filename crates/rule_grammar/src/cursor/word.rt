@@ -1,4 +1,6 @@
 //! Words and codes at the front of a text.
+//!
+//! In contracts, `IsFront` says that these are the token and the text behind it.
 ghost use Rattle.std.specs.Prelude.{◌≡◌, ◌≤◌, length};
 ghost use Rattle.rule_grammar.specs.inner.Cursors.{IsFront};
 ghost use Rattle.rule_grammar.specs.Tokens.{word_token};
@@ -9,7 +11,7 @@ use super::run::{code_len, word_len};
 use crate::token::{Keyword, Token};
 use edit_model::Name;
 
-/// The word at the front of a text that begins with a byte of words.
+/// The word at the front of a text that begins with a letter, and the text after it.
 pub(super) fn first_word<'a>(text: &'a [u8]) -> Lexeme<'a>
     requires { 1 ≤ word_len text.now }
     ensures { IsFront (front_word text.now) result.token result.rest.now }
@@ -21,7 +23,8 @@ pub(super) fn first_word<'a>(text: &'a [u8]) -> Lexeme<'a>
     }
 }
 
-/// The code at the front of a text that begins with a byte of codes.
+/// The code at the front of a text that begins with a byte of codes (`is_code_byte`), and the text after
+/// it.
 pub(super) fn first_code<'a>(text: &'a [u8]) -> Lexeme<'a>
     requires { 1 ≤ code_len text.now }
     ensures { IsFront (front_code text.now) result.token result.rest.now }
@@ -33,7 +36,7 @@ pub(super) fn first_code<'a>(text: &'a [u8]) -> Lexeme<'a>
     }
 }
 
-// The keyword that a word is, or else the name of a field.
+// The keyword that a word is, or else the name of a field. Keywords are written in small letters.
 fn word_token(word: &[u8]) -> Token
     requires { (1 ≤ length word.now) × (length word.now ≤ 32) }
     ensures { result ≡ word_token word.now }
@@ -61,7 +64,7 @@ fn word_token(word: &[u8]) -> Token
     }
 }
 
-// The code of these bytes.
+// The token of the code that has these bytes.
 fn code_token(code: &[u8]) -> Token
     requires { (1 ≤ length code.now) × (length code.now ≤ 32) }
     ensures { result ≡ Token.Code code.now }
@@ -69,7 +72,7 @@ fn code_token(code: &[u8]) -> Token
     Token::Code(name_of(code))
 }
 
-// The bytes as a name.
+// The bytes as a name. There are 1 to 32 of them, as a name asks, so that `unwrap` does not fail.
 fn name_of(bytes: &[u8]) -> Name
     requires { (1 ≤ length bytes.now) × (length bytes.now ≤ 32) }
     ensures { result ≡ bytes.now }

@@ -1,3 +1,10 @@
+//! Rules, read off the tokens: `if`, a test, further tests behind `and`, `then` and a test; or a test
+//! alone. What is read is taken off the cursor, and `Unreadable` is answered where the tokens don't begin
+//! so.
+//!
+//! In contracts `rule_at` and its like are what the grammar reads at the front of the tokens. `Parses`
+//! says that the call answers just that and leaves the tokens behind it, or answers `Unreadable` where
+//! that is nothing.
 ghost use Rattle.std.specs.Prelude.{◌∷◌};
 ghost use Rattle.rule_grammar.specs.inner.Parsing.{Parses, and_test_at, and_tests_at, conditional_at, rule_at, then_at};
 
@@ -10,7 +17,7 @@ use crate::token::Keyword;
 use foundation::Sequence;
 use std::alloc::Global;
 
-/// `and` and a test.
+/// Reads `and` and the test behind it.
 fn and_test(alloc: Global, cursor: &mut Cursor) -> Result<TestText, Fault>
     ensures { Parses (and_test_at cursor.old) cursor.new result }
 {
@@ -20,7 +27,8 @@ fn and_test(alloc: Global, cursor: &mut Cursor) -> Result<TestText, Fault>
     test(alloc, cursor)
 }
 
-/// The conditions behind the first, each with its `and`, as many as there are.
+/// Reads the further conditions of a rule, each with its `and`, as long as an `and` comes next. It answers
+/// all conditions: `first`, which is read already, and these.
 #[tactic(auto, using(crate::proofs::ManyLaws::many_turns, crate::proofs::TestLaws::and_test_shortens))]
 fn and_tests(
     alloc: Global,
@@ -37,7 +45,7 @@ fn and_tests(
     Ok(Sequence::from_vec(tests))
 }
 
-/// `then` and the test that follows from these conditions.
+/// Reads `then` and the test that follows from the conditions, which are read already.
 fn conclusion(
     alloc: Global,
     cursor: &mut Cursor,
@@ -55,7 +63,7 @@ fn conclusion(
     })
 }
 
-/// A rule with conditions, whose `if` is taken.
+/// Reads a rule with conditions, from behind its `if`.
 fn conditional(alloc: Global, cursor: &mut Cursor) -> Result<RuleText, Fault>
     ensures { Parses (conditional_at cursor.old) cursor.new result }
 {
@@ -64,7 +72,7 @@ fn conditional(alloc: Global, cursor: &mut Cursor) -> Result<RuleText, Fault>
     conclusion(alloc, cursor, conditions)
 }
 
-/// A rule.
+/// Reads a rule: with conditions where it begins with `if`, and else a test alone.
 pub(crate) fn rule(alloc: Global, cursor: &mut Cursor) -> Result<RuleText, Fault>
     ensures { Parses (rule_at cursor.old) cursor.new result }
 {

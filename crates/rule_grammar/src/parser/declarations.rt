@@ -1,3 +1,8 @@
+//! Declarations of fields, read off the tokens, as `number A weight 2 scale 100` and `code B in {x, y}`.
+//!
+//! In contracts `number_at` and its like are what the grammar reads at the front of the tokens. `Parses`
+//! says that the call answers just that and leaves the tokens behind it, or answers `Unreadable` where
+//! that is nothing. `Reads` says the same of a call without memory, which answers None instead.
 ghost use Rattle.rule_grammar.specs.inner.Parsing.{Parses, Reads, code_field_at, number_at, option_at};
 
 use crate::cursor::Cursor;
@@ -8,7 +13,9 @@ use crate::statement::Declaration;
 use crate::token::{Keyword, Numeral};
 use std::alloc::Global;
 
-/// A keyword and its numeral, or nothing where the keyword is not there.
+/// Reads a part that may be left out: the keyword `word`, and the numeral behind it. `Some(None)` where
+/// another token comes next: the part is left out. None where the keyword does, and no numeral is behind
+/// it.
 fn optional(cursor: &mut Cursor, word: Keyword) -> Option<Option<Numeral>>
     ensures { Reads (option_at word cursor.old) cursor.new result }
 {
@@ -19,7 +26,8 @@ fn optional(cursor: &mut Cursor, word: Keyword) -> Option<Option<Numeral>>
     Some(None)
 }
 
-/// The declaration of a number, whose first word is taken.
+/// Reads the declaration of a numerical field, from behind the word `number`: its name, and its weight and
+/// its scale, where they are written. None where the tokens don't begin with one.
 pub(crate) fn number(cursor: &mut Cursor) -> Option<Declaration>
     ensures { Reads (number_at cursor.old) cursor.new result }
 {
@@ -33,7 +41,8 @@ pub(crate) fn number(cursor: &mut Cursor) -> Option<Declaration>
     })
 }
 
-/// The declaration of codes, whose first word is taken.
+/// Reads the declaration of a categorical field, from behind the word `code`: its name, its weight, if one
+/// is written, and its list of codes.
 pub(crate) fn code(alloc: Global, cursor: &mut Cursor) -> Result<Declaration, Fault>
     ensures { Parses (code_field_at cursor.old) cursor.new result }
 {

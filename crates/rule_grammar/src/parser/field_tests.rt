@@ -1,3 +1,9 @@
+//! Tests, read off the tokens. One that begins with a name may be of codes or of sums, so the name is taken
+//! first, and the next token tells.
+//!
+//! In contracts `test_at` and its like are what the grammar reads at the front of the tokens. `Parses`
+//! says that the call answers just that and leaves the tokens behind it, or answers `Unreadable` where
+//! that is nothing.
 ghost use Rattle.rule_grammar.specs.inner.Parsing.{Parses, codes_after, compared_at, sums_after, test_after, test_at};
 
 use crate::cursor::Cursor;
@@ -10,8 +16,8 @@ use crate::token::Keyword;
 use edit_model::Name;
 use std::alloc::Global;
 
-/// The test of two sums whose left one is this, which is taken.
-fn compared(alloc: Global, cursor: &mut Cursor, left: SumText) -> Result<TestText, Fault>
+/// Reads the comparison and the right sum of a test whose `left` sum is taken already.
+fn comparison_from(alloc: Global, cursor: &mut Cursor, left: SumText) -> Result<TestText, Fault>
     ensures { Parses (compared_at left cursor.old) cursor.new result }
 {
     let compare = take_compare(cursor).ok_or(Fault::Unreadable)?;
@@ -23,15 +29,17 @@ fn compared(alloc: Global, cursor: &mut Cursor, left: SumText) -> Result<TestTex
     })
 }
 
-/// The test of two sums that begins with this name, which is taken.
+/// Reads the rest of a test of two sums that begins with this field's name, which is taken already. The
+/// name is the first term of the left sum.
 fn sums(alloc: Global, cursor: &mut Cursor, field: Name) -> Result<TestText, Fault>
     ensures { Parses (sums_after field cursor.old) cursor.new result }
 {
     let left = sum_from(alloc, cursor, None, TermText::Field(field))?;
-    compared(alloc, cursor, left)
+    comparison_from(alloc, cursor, left)
 }
 
-/// The test of the codes of this field, which is taken with `not`.
+/// Reads `in` and the list of a test of codes. The name of its field is taken already, and so is the `not`
+/// before `in` where `negated` says that one stands there.
 fn codes(alloc: Global, cursor: &mut Cursor, field: Name, negated: bool) -> Result<TestText, Fault>
     ensures { Parses (codes_after field negated cursor.old) cursor.new result }
 {
@@ -43,7 +51,8 @@ fn codes(alloc: Global, cursor: &mut Cursor, field: Name, negated: bool) -> Resu
     })
 }
 
-/// The test that begins with this name, which is taken.
+/// Reads the rest of a test that begins with this field's name, which is taken already. It is a test of
+/// codes where `not` or `in` comes next, and else of sums.
 fn test_from(alloc: Global, cursor: &mut Cursor, field: Name) -> Result<TestText, Fault>
     ensures { Parses (test_after field cursor.old) cursor.new result }
 {
@@ -56,7 +65,7 @@ fn test_from(alloc: Global, cursor: &mut Cursor, field: Name) -> Result<TestText
     sums(alloc, cursor, field)
 }
 
-/// A test.
+/// Reads a test, of codes or of two sums.
 pub(crate) fn test(alloc: Global, cursor: &mut Cursor) -> Result<TestText, Fault>
     ensures { Parses (test_at cursor.old) cursor.new result }
 {
@@ -65,5 +74,5 @@ pub(crate) fn test(alloc: Global, cursor: &mut Cursor) -> Result<TestText, Fault
         return test_from(alloc, cursor, field);
     }
     let left = sum(alloc, cursor)?;
-    compared(alloc, cursor, left)
+    comparison_from(alloc, cursor, left)
 }

@@ -1,3 +1,8 @@
+//! Lists of codes, as `in {x, y}`, read off the tokens.
+//!
+//! In contracts `list_at` and its like are what the grammar reads at the front of the tokens. `Parses`
+//! says that the call answers just that and leaves the tokens behind it, or answers `Unreadable` where
+//! that is nothing. `Reads` says the same of a call without memory, which answers None instead.
 ghost use Rattle.rule_grammar.specs.inner.Parsing.{Parses, Reads, codes_at, comma_code_at, in_list_at, is_comma, list_at, many_at};
 
 use crate::cursor::Cursor;
@@ -9,7 +14,8 @@ use edit_model::Name;
 use foundation::Sequence;
 use std::alloc::Global;
 
-/// A comma and a code.
+/// Reads a comma and the code behind it. None where another token comes next, or no code is behind the
+/// comma.
 fn comma_code(cursor: &mut Cursor) -> Option<Name>
     ensures { Reads (comma_code_at cursor.old) cursor.new result }
 {
@@ -19,7 +25,7 @@ fn comma_code(cursor: &mut Cursor) -> Option<Name>
     }
 }
 
-/// The codes at the front, each behind a comma, as many as there are.
+/// Reads codes, each behind a comma, as long as a comma comes next. A comma without a code is unreadable.
 #[tactic(auto, using(crate::proofs::ManyLaws::many_turns, crate::proofs::ListLaws::comma_code_shortens))]
 fn comma_codes(alloc: Global, cursor: &mut Cursor) -> Result<Sequence<Name>, Fault>
     ensures { Parses (many_at is_comma comma_code_at cursor.old) cursor.new result }
@@ -32,7 +38,8 @@ fn comma_codes(alloc: Global, cursor: &mut Cursor) -> Result<Sequence<Name>, Fau
     Ok(Sequence::from_vec(codes))
 }
 
-/// The list that begins with this code, which is taken with the brace before it.
+/// Reads the further codes of a list and the brace that closes it. The first code is taken already, with
+/// the brace before it.
 fn list_from(alloc: Global, cursor: &mut Cursor, first: Name) -> Result<CodeList, Fault>
     ensures { Parses (codes_at first cursor.old) cursor.new result }
 {
@@ -43,7 +50,7 @@ fn list_from(alloc: Global, cursor: &mut Cursor, first: Name) -> Result<CodeList
     }
 }
 
-/// The codes between two braces.
+/// Reads a list of at least one code, with its braces.
 fn list(alloc: Global, cursor: &mut Cursor) -> Result<CodeList, Fault>
     ensures { Parses (list_at cursor.old) cursor.new result }
 {
@@ -54,7 +61,7 @@ fn list(alloc: Global, cursor: &mut Cursor) -> Result<CodeList, Fault>
     list_from(alloc, cursor, first)
 }
 
-/// `in` and a list.
+/// Reads `in` and the list behind it.
 pub(crate) fn in_list(alloc: Global, cursor: &mut Cursor) -> Result<CodeList, Fault>
     ensures { Parses (in_list_at cursor.old) cursor.new result }
 {

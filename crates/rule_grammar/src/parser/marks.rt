@@ -1,18 +1,26 @@
+//! Single tokens at the front: whether one of some kind comes next, and taking it. A token of another kind
+//! is taken as well where None is answered, since nothing more is read then.
+//!
+//! In contracts `name_at` and its like are what the grammar reads at the front of the tokens. `Reads` says
+//! that a call without memory answers just that and leaves the tokens behind it, or answers None where
+//! that is nothing. `begins` says that a token of this kind is at the front, and `rest_of` are the tokens
+//! behind it.
 ghost use Rattle.std.specs.Prelude.{◌≡◌, if◌then◌else◌};
-ghost use Rattle.rule_grammar.specs.inner.Parsing.{Reads, begins, code_at, compare_at, ends, is_comma, is_name_token, is_sign, is_word, name_at, numeral_at, rest_of, sign_at};
+ghost use Rattle.rule_grammar.specs.inner.Parsing.{Reads, begins, code_at, compare_at, ends, is_comma, is_name_token, is_sign, is_word};
+ghost use Rattle.rule_grammar.specs.inner.Parsing.{name_at, numeral_at, rest_of, sign_at};
 
 use crate::cursor::Cursor;
 use crate::token::{Keyword, Numeral, Sign, Token};
 use edit_model::{Compare, Name};
 
-/// Whether no token is left.
+/// Whether no token is left on the line.
 pub(crate) fn is_over(cursor: &Cursor) -> bool
     ensures { result ≡ ends cursor.now }
 {
     cursor.front().is_none()
 }
 
-/// Whether this keyword is at the front. It is taken where it is.
+/// Whether the keyword `wanted` is at the front. It is taken where it is; any other token is left there.
 pub(crate) fn take_word(cursor: &mut Cursor, wanted: Keyword) -> bool
     ensures found { result ≡ begins (is_word wanted) cursor.old }
     ensures left { cursor.new ≡ (if result then rest_of cursor.old else cursor.old) }
@@ -26,7 +34,7 @@ pub(crate) fn take_word(cursor: &mut Cursor, wanted: Keyword) -> bool
     }
 }
 
-/// Whether this keyword is at the front. It is left there.
+/// Whether the keyword `wanted` is at the front. It is left there.
 pub(crate) fn has_word(cursor: &Cursor, wanted: Keyword) -> bool
     ensures { result ≡ begins (is_word wanted) cursor.now }
 {
@@ -57,7 +65,7 @@ pub(crate) fn has_comma(cursor: &Cursor) -> bool
     matches!(cursor.front(), Some(Token::Comma))
 }
 
-/// Takes the name of a field.
+/// Takes the name of a field, or answers None where another token or none comes next.
 pub(crate) fn take_name(cursor: &mut Cursor) -> Option<Name>
     ensures { Reads (name_at cursor.old) cursor.new result }
 {
@@ -67,7 +75,7 @@ pub(crate) fn take_name(cursor: &mut Cursor) -> Option<Name>
     }
 }
 
-/// Takes a numeral.
+/// Takes a numeral, or answers None where another token or none comes next.
 pub(crate) fn take_numeral(cursor: &mut Cursor) -> Option<Numeral>
     ensures { Reads (numeral_at cursor.old) cursor.new result }
 {
@@ -77,7 +85,7 @@ pub(crate) fn take_numeral(cursor: &mut Cursor) -> Option<Numeral>
     }
 }
 
-/// Takes a code.
+/// Takes a code, or answers None where another token or none comes next.
 pub(crate) fn take_code(cursor: &mut Cursor) -> Option<Name>
     ensures { Reads (code_at cursor.old) cursor.new result }
 {
@@ -87,7 +95,7 @@ pub(crate) fn take_code(cursor: &mut Cursor) -> Option<Name>
     }
 }
 
-/// Takes a sign.
+/// Takes a sign, or answers None where another token or none comes next.
 pub(crate) fn take_sign(cursor: &mut Cursor) -> Option<Sign>
     ensures { Reads (sign_at cursor.old) cursor.new result }
 {
@@ -97,7 +105,7 @@ pub(crate) fn take_sign(cursor: &mut Cursor) -> Option<Sign>
     }
 }
 
-/// Takes a comparison.
+/// Takes a comparison, or answers None where another token or none comes next.
 pub(crate) fn take_compare(cursor: &mut Cursor) -> Option<Compare>
     ensures { Reads (compare_at cursor.old) cursor.new result }
 {

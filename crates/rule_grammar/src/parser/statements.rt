@@ -1,3 +1,9 @@
+//! Statements, read off the tokens. The first token tells which kind it is: `number` and `code` begin
+//! declarations, and all else is a rule.
+//!
+//! In contracts `statement_at` is what the grammar reads at the front of the tokens. `Parses` says that
+//! the call answers just that and leaves the tokens behind it, or answers `Unreadable` where that is
+//! nothing.
 ghost use Rattle.rule_grammar.specs.inner.Parsing.{Parses, statement_at};
 
 use crate::cursor::Cursor;
@@ -9,7 +15,8 @@ use crate::statement::Statement;
 use crate::token::Keyword;
 use std::alloc::Global;
 
-/// A statement at the front of the tokens.
+/// Reads a statement at the front of the tokens. `Unreadable` where they don't begin with one; tokens may
+/// be left behind it.
 pub(crate) fn statement(alloc: Global, cursor: &mut Cursor) -> Result<Statement, Fault>
     ensures { Parses (statement_at cursor.old) cursor.new result }
 {

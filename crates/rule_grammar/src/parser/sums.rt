@@ -1,3 +1,8 @@
+//! Sums of terms, as `2 A - B + 3`, read off the tokens.
+//!
+//! In contracts `sum_at` and its like are what the grammar reads at the front of the tokens. `Parses` says
+//! that the call answers just that and leaves the tokens behind it, or answers `Unreadable` where that is
+//! nothing. `Reads` says the same of a call without memory, which answers None instead.
 ghost use Rattle.std.specs.Prelude.{Some, None};
 ghost use Rattle.rule_grammar.specs.inner.Parsing.{Parses, Reads, factor_at, many_at, is_sign, signed_term_at, sum_after, sum_at, term_at};
 
@@ -9,7 +14,8 @@ use crate::token::{Numeral, Sign, Token};
 use foundation::Sequence;
 use std::alloc::Global;
 
-/// What a term is that begins with this numeral, which is taken.
+/// Reads the rest of a term that begins with the numeral `number`, which is taken already. It is a product
+/// where `*` or a name comes next, and else a constant. None where no name is behind a `*`.
 fn term_of_numeral(cursor: &mut Cursor, number: Numeral) -> Option<TermText>
     ensures { Reads (factor_at number cursor.old) cursor.new result }
 {
@@ -29,7 +35,8 @@ fn term_of_numeral(cursor: &mut Cursor, number: Numeral) -> Option<TermText>
     })
 }
 
-/// A term.
+/// Reads a term without its sign. None where neither a name nor a numeral comes next, or no name is behind
+/// a `*`.
 fn term(cursor: &mut Cursor) -> Option<TermText>
     ensures { Reads (term_at cursor.old) cursor.new result }
 {
@@ -40,7 +47,7 @@ fn term(cursor: &mut Cursor) -> Option<TermText>
     }
 }
 
-/// A sign and a term.
+/// Reads a sign and the term behind it. None where no sign comes next, or no term is behind it.
 fn signed_term(cursor: &mut Cursor) -> Option<SignedTerm>
     ensures { Reads (signed_term_at cursor.old) cursor.new result }
 {
@@ -49,7 +56,7 @@ fn signed_term(cursor: &mut Cursor) -> Option<SignedTerm>
     Some(SignedTerm { sign, term })
 }
 
-/// The signed terms at the front, as many as there are.
+/// Reads signed terms, as long as a sign comes next. A sign without a term is unreadable.
 #[tactic(auto, using(crate::proofs::ManyLaws::many_turns, crate::proofs::SumLaws::signed_term_shortens))]
 fn signed_terms(alloc: Global, cursor: &mut Cursor) -> Result<Sequence<SignedTerm>, Fault>
     ensures { Parses (many_at is_sign signed_term_at cursor.old) cursor.new result }
@@ -62,7 +69,8 @@ fn signed_terms(alloc: Global, cursor: &mut Cursor) -> Result<Sequence<SignedTer
     Ok(Sequence::from_vec(terms))
 }
 
-/// The sum that begins with this sign and this term, which are taken.
+/// Reads the further terms of a sum. Its first term is taken already, and so is the sign before it, if
+/// there is one.
 pub(crate) fn sum_from(
     alloc: Global,
     cursor: &mut Cursor,
@@ -75,7 +83,7 @@ pub(crate) fn sum_from(
     Ok(SumText { sign, first, rest })
 }
 
-/// A sum.
+/// Reads a sum: a term, with a sign in front or not, and further terms with their signs.
 pub(crate) fn sum(alloc: Global, cursor: &mut Cursor) -> Result<SumText, Fault>
     ensures { Parses (sum_at cursor.old) cursor.new result }
 {

@@ -19,16 +19,19 @@ returns-in_default-2-clause-none c =
 pub returns-clause-some : goal.returns-clause-some
 returns-clause-some c =
     let takes = rw c.in_ok-command.ensures at (rw c.in-Some-2.is at c.in_ok-found.ensures.some) in
-    if_some c.check_of.result (λ asked gives. asked_by check_command _ (λ rows. GivesCheck rows asked) _ c.in-Some.ensures.some _ takes gives) c.check_of.ensures.some
+    if_some c.check_of.result (λ asked gives. asked_by check_command _
+    (λ rows. GivesCheck rows asked) _ c.in-Some.ensures.some _ takes gives) c.check_of.ensures.some
 
 pub returns-clause-only : goal.returns-clause-only
 returns-clause-only c =
     let takes = rw c.in_ok-command.ensures at (rw c.in-Some-2.is at c.in_ok-found.ensures.some) in
     if_some c.check_of.result
-    (λ asked gives other asks. one_check _ other asked (found_by check_command _ (λ rows. GivesCheck rows other) _ c.in-Some.ensures.some _ takes asks) gives) c.check_of.ensures.some
+    (λ asked gives other asks. one_check _ other asked (found_by check_command _
+    (λ rows. GivesCheck rows other) _ c.in-Some.ensures.some _ takes asks) gives) c.check_of.ensures.some
 
 pub returns-clause-none : goal.returns-clause-none
 returns-clause-none c =
     let takes = rw c.in_ok-command.ensures at (rw c.in-Some-2.is at c.in_ok-found.ensures.some) in
-    if_none c.check_of.result (λ ungiven asked asks. ungiven asked (found_by check_command _ (λ rows. GivesCheck rows asked) _ c.in-Some.ensures.some _ takes asks))
+    if_none c.check_of.result (λ ungiven asked asks. ungiven asked
+    (found_by check_command _ (λ rows. GivesCheck rows asked) _ c.in-Some.ensures.some _ takes asks))
     c.check_of.ensures.none

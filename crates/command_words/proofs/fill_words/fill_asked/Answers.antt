@@ -19,16 +19,19 @@ returns-in_default-2-clause-none c =
 pub returns-clause-some : goal.returns-clause-some
 returns-clause-some c =
     let takes = rw c.in_ok-command.ensures at (rw c.in-Some-2.is at c.in_ok-found.ensures.some) in
-    if_some c.fill_of.result (λ asked gives. asked_by fill_command _ (λ rows. GivesFill rows asked) _ c.in-Some.ensures.some _ takes gives) c.fill_of.ensures.some
+    if_some c.fill_of.result (λ asked gives. asked_by fill_command _
+    (λ rows. GivesFill rows asked) _ c.in-Some.ensures.some _ takes gives) c.fill_of.ensures.some
 
 pub returns-clause-only : goal.returns-clause-only
 returns-clause-only c =
     let takes = rw c.in_ok-command.ensures at (rw c.in-Some-2.is at c.in_ok-found.ensures.some) in
     if_some c.fill_of.result
-    (λ asked gives other asks. one_fill _ other asked (found_by fill_command _ (λ rows. GivesFill rows other) _ c.in-Some.ensures.some _ takes asks) gives) c.fill_of.ensures.some
+    (λ asked gives other asks. one_fill _ other asked (found_by fill_command _
+    (λ rows. GivesFill rows other) _ c.in-Some.ensures.some _ takes asks) gives) c.fill_of.ensures.some
 
 pub returns-clause-none : goal.returns-clause-none
 returns-clause-none c =
     let takes = rw c.in_ok-command.ensures at (rw c.in-Some-2.is at c.in_ok-found.ensures.some) in
-    if_none c.fill_of.result (λ ungiven asked asks. ungiven asked (found_by fill_command _ (λ rows. GivesFill rows asked) _ c.in-Some.ensures.some _ takes asks))
+    if_none c.fill_of.result (λ ungiven asked asks. ungiven asked
+    (found_by fill_command _ (λ rows. GivesFill rows asked) _ c.in-Some.ensures.some _ takes asks))
     c.fill_of.ensures.none

@@ -13,10 +13,12 @@ returns-in_default-2-clause-none c =
 pub returns-clause-some : goal.returns-clause-some
 returns-clause-some c =
     let takes = rw c.in_ok-command.ensures at (rw c.in-Some-2.is at c.in_ok-found.ensures.some) in
-    if_some c.rules_of.result (λ asked gives. asked_by rules_command _ (λ rows. GivesRules rows asked) _ c.in-Some.ensures.some _ takes gives) c.rules_of.ensures.some
+    if_some c.rules_of.result (λ asked gives. asked_by rules_command _
+    (λ rows. GivesRules rows asked) _ c.in-Some.ensures.some _ takes gives) c.rules_of.ensures.some
 
 pub returns-clause-none : goal.returns-clause-none
 returns-clause-none c =
     let takes = rw c.in_ok-command.ensures at (rw c.in-Some-2.is at c.in_ok-found.ensures.some) in
-    if_none c.rules_of.result (λ ungiven asked asks. ungiven asked (found_by rules_command _ (λ rows. GivesRules rows asked) _ c.in-Some.ensures.some _ takes asks))
+    if_none c.rules_of.result (λ ungiven asked asks. ungiven asked
+    (found_by rules_command _ (λ rows. GivesRules rows asked) _ c.in-Some.ensures.some _ takes asks))
     c.rules_of.ensures.none

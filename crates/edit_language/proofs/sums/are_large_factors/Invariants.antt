@@ -5,4 +5,5 @@ use Rattle.edit_language.specs.Meaning.{moved_factor}
 use Rattle.edit_language.proofs.sums.are_large_factors.Given as goal
 
 abbrev pub invariant-loop-field : goal.invariant-loop-field
-invariant-loop-field l = list_any (λ f. nat_lt (10 ^ 9) (unsigned_abs (moved_factor l.left l.right f.name))) l.fields ≡ list_any (λ f. nat_lt (10 ^ 9) (unsigned_abs (moved_factor l.left l.right f.name))) (drop l.field-index l.fields)
+invariant-loop-field l = list_any (λ f. nat_lt (10 ^ 9) (unsigned_abs (moved_factor l.left l.right f.name))) l.fields ≡ list_any
+    (λ f. nat_lt (10 ^ 9) (unsigned_abs (moved_factor l.left l.right f.name))) (drop l.field-index l.fields)

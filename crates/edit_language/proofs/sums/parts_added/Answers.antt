@@ -20,12 +20,12 @@ loop-term-preserved c =
     let terms = c.args.terms.now in
     let i = c.loop-term.term-index in
     let total = c.loop-term.total in
-    let part = c.signed-total.result in
+    let part = c.signed_number-total.result in
     let before = rw c.loop-term.total-is at c.loop-term.invariant in
     let part_fits : FitsSigned w128 part = search rules in
     let few : length terms < 2 ^ 64 = search rules in
-    let size = size_more i total part _ before.1 c.signed-total.ensures.size c.part_in.ensures.size in
+    let size = size_more i total part _ before.1 c.signed_number-total.ensures.size c.part_in.ensures.size in
     let fits : FitsSigned w128 (total +ℤ part) = sum_fits _ i (length terms) size c.loop-term-test.true few in
-    let is = c.signed-total.ensures.value ∙ ap (signed c.term-item.result.sign) c.part_in.ensures.value in
+    let is = c.signed_number-total.ensures.value ∙ ap (signed c.term-item.result.sign) c.part_in.ensures.value in
     let more = parts_more name terms i c.term-item.result _ total part c.loop-term-test.true c.term-item.is is before.0 in
     rw (c.loop-term.total-is) (simp to_z-of_z (more, size))

@@ -23,4 +23,5 @@ overflow_add-number c =
 pub loop-digit-preserved : goal.loop-digit-preserved
 loop-digit-preserved c =
     let digit = rw c.if-not-is_ascii_digit.false at c.is_ascii_digit.ensures.cases in
-    number_more c.args.digits.now c.loop-digit.number c.loop-digit.digit-index c.from.result c.loop-digit-test.true c.loop-digit.invariant.0 c.loop-digit.invariant.1 digit c.from.ensures
+    number_more c.args.digits.now c.loop-digit.number c.loop-digit.digit-index c.from.result c.loop-digit-test.true c.loop-digit.invariant.0
+    c.loop-digit.invariant.1 digit c.from.ensures

@@ -1,7 +1,9 @@
+use Rattle.std.proofs.Common.{arith}
 use Rattle.std.proofs.lemmas.List.Elements.{All-from_recursion}
 use Rattle.std.proofs.lemmas.Result.{err_from_is_err_and}
-use Rattle.record_text.proofs.FaultLaws.{faultless_equally_long}
+use Rattle.record_text.proofs.FaultLaws.{faultless_equally_long, faultless_few}
 use Rattle.record_text.proofs.RowsTold.{fault_behind, rows_behind}
+use Rattle.record_text.proofs.ValueLaws.{rows_length}
 use Rattle.record_text.proofs.reading.read_rows.Goals as goal
 
 pub returns-in_err-row_texts-clause-fault : goal.returns-in_err-row_texts-clause-fault
@@ -18,3 +20,16 @@ pub returns-clause-rows : goal.returns-clause-rows
 returns-clause-rows c =
     rows_behind c.args.width c.args.reader.now c.args.survey.now.fields c.args.columns.now c.in_ok-row_texts.row_texts.items c.in_ok-rows.rows.items
     c.in_ok-row_texts.ensures.records c.in_ok-row_texts.ensures.faultless (rw c.deref.ensures.value at c.in_ok-rows.ensures)
+
+pub returns-clause-equal : goal.returns-clause-equal
+returns-clause-equal c =
+    rows_length c.args.survey.now.fields c.args.columns.now c.in_ok-row_texts.row_texts.items c.in_ok-rows.rows.items
+    (rw c.deref.ensures.value at c.in_ok-rows.ensures)
+
+pub returns-clause-few : goal.returns-clause-few
+returns-clause-few c =
+    let same =
+    rows_length c.args.survey.now.fields c.args.columns.now c.in_ok-row_texts.row_texts.items c.in_ok-rows.rows.items
+    (rw c.deref.ensures.value at c.in_ok-rows.ensures) in
+    let few = faultless_few 200000 c.args.width 0 c.in_ok-row_texts.row_texts.items (omega arith) c.in_ok-row_texts.ensures.faultless in
+    omega arith

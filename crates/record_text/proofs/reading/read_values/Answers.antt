@@ -6,5 +6,6 @@ pub loop-number-preserved : goal.loop-number-preserved
 loop-number-preserved c =
     let f = c.index-fields-number in
     let value = rw c.get-text.ensures at c.value_of_text.ensures in
-    let more = values_more c.args.fields.now c.args.columns.now c.args.texts.now c.loop-number.values.items c.loop-number.number f.result c.value_of_text.result c.loop-number-test.true c.requires.columns f.is c.loop-number.invariant value in
+    let more = values_more c.args.fields.now c.args.columns.now c.args.texts.now c.loop-number.values.items c.loop-number.number f.result c.value_of_text.result
+    c.loop-number-test.true c.requires.columns f.is c.loop-number.invariant value in
     rw (add-one, c.in_ok-push.ensures.items) more

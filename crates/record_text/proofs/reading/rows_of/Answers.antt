@@ -8,5 +8,7 @@ loop-texts-preserved c =
     let all = c.args.row_texts.now in
     let i = c.loop-texts.texts-index in
     let texts = c.texts-item.result in
-    let step : take (i + 1) all ≡ take i all ++ texts ∷ [] = take_more all i texts c.loop-texts-test.true ∙ ap (λ (t : List (List ℕ)). take i all ++ t ∷ []) (sym c.texts-item.is) in
-    rw (c.in_ok-push.ensures.items, step) (rows_more c.args.survey.now.fields c.args.columns.now (take i all) c.loop-texts.rows.items texts c.in_ok-row.row c.loop-texts.invariant c.in_ok-row.ensures)
+    let step : take (i + 1) all ≡ take i all ++ texts ∷ [] = take_more all i texts c.loop-texts-test.true
+    ∙ ap (λ (t : List (List ℕ)). take i all ++ t ∷ []) (sym c.texts-item.is) in
+    rw (c.in_ok-push.ensures.items, step) (rows_more c.args.survey.now.fields c.args.columns.now
+    (take i all) c.loop-texts.rows.items texts c.in_ok-row.row c.loop-texts.invariant c.in_ok-row.ensures)

@@ -9,7 +9,8 @@ loop-row_no-init c = rw c.new-row_texts.ensures.items (read_none c.args.most c.a
 pub returns-then-not-branch-clause-records : goal.returns-then-not-branch-clause-records
 returns-then-not-branch-clause-records c =
     let reads = rw c.if-not-branch.true at c.in_ok-read_next.ensures in
-    read_all c.args.most c.args.width c.args.reader.now c.loop-row_no.reader c.read_next.new.reader c.loop-row_no.row_texts.items (fields_of c.read_next.new.csv_record) c.loop-row_no.invariant.0 reads
+    read_all c.args.most c.args.width c.args.reader.now c.loop-row_no.reader c.read_next.new.reader c.loop-row_no.row_texts.items
+    (fields_of c.read_next.new.csv_record) c.loop-row_no.invariant.0 reads
 
 pub returns-then-not-branch-clause-faultless : goal.returns-then-not-branch-clause-faultless
 returns-then-not-branch-clause-faultless c = c.loop-row_no.invariant.0.faultless
@@ -17,27 +18,33 @@ returns-then-not-branch-clause-faultless c = c.loop-row_no.invariant.0.faultless
 pub returns-then-len-width-clause-fault : goal.returns-then-len-width-clause-fault
 returns-then-len-width-clause-fault c = λ other.
     let reads = rw c.if-not-branch.false at c.in_ok-read_next.ensures in
-    faulty_row c.args.most c.args.width c.args.reader.now c.loop-row_no.reader c.read_next.new.reader c.loop-row_no.row_texts.items (fields_of c.read_next.new.csv_record) c.loop-row_no.invariant.0
+    faulty_row c.args.most c.args.width c.args.reader.now c.loop-row_no.reader c.read_next.new.reader c.loop-row_no.row_texts.items
+    (fields_of c.read_next.new.csv_record) c.loop-row_no.invariant.0
     c.loop-row_no.row_no reads c.loop-row_no.invariant.1 c.loop-row_no-test.true (rw c.len.ensures at c.if-len-width.true)
 
 pub loop-row_no-preserved : goal.loop-row_no-preserved
 loop-row_no-preserved c =
     let reads = rw c.if-not-branch.false at c.in_ok-read_next.ensures in
     let texts = fields_of c.read_next.new.csv_record in
-    let more = read_more c.args.most c.args.width c.args.reader.now c.loop-row_no.reader c.read_next.new.reader c.loop-row_no.row_texts.items texts c.loop-row_no.invariant.0
-    reads (omega (arith, c.loop-row_no.invariant.1, c.loop-row_no-test.true)) (rw c.len.ensures at c.if-len-width.false) in
-    (rw (c.in_ok-push.ensures.items, c.in_ok-texts.ensures) more, rw c.in_ok-push.ensures.items (omega (arith, length-append c.loop-row_no.row_texts.items (c.in_ok-texts.texts ∷ []), c.loop-row_no.invariant.1)))
+    let more = read_more c.args.most c.args.width c.args.reader.now c.loop-row_no.reader c.read_next.new.reader c.loop-row_no.row_texts.items texts
+    c.loop-row_no.invariant.0
+    reads (omega (arith, c.loop-row_no.invariant.1, c.loop-row_no-test.true)) (rw c.len.ensures at c.if-len-width.false) in (
+      rw (c.in_ok-push.ensures.items, c.in_ok-texts.ensures) more,
+      rw c.in_ok-push.ensures.items (omega (arith, length-append c.loop-row_no.row_texts.items (c.in_ok-texts.texts ∷ []), c.loop-row_no.invariant.1)),
+    )
 
 pub returns-then-branch-clause-fault : goal.returns-then-branch-clause-fault
 returns-then-branch-clause-fault c = λ other.
     let reads = rw c.if-branch.true at c.in_ok-read_next-2.ensures in
-    row_too_many c.args.most c.args.width c.args.reader.now c.loop-row_no.reader c.read_next-2.new.reader c.loop-row_no.row_texts.items (fields_of c.read_next-2.new.csv_record) c.loop-row_no.invariant.0
+    row_too_many c.args.most c.args.width c.args.reader.now c.loop-row_no.reader c.read_next-2.new.reader c.loop-row_no.row_texts.items
+    (fields_of c.read_next-2.new.csv_record) c.loop-row_no.invariant.0
     reads (omega arith)
 
 pub returns-clause-records : goal.returns-clause-records
 returns-clause-records c =
     let reads = rw c.if-branch.false at c.in_ok-read_next-2.ensures in
-    read_all c.args.most c.args.width c.args.reader.now c.loop-row_no.reader c.read_next-2.new.reader c.loop-row_no.row_texts.items (fields_of c.read_next-2.new.csv_record) c.loop-row_no.invariant.0 reads
+    read_all c.args.most c.args.width c.args.reader.now c.loop-row_no.reader c.read_next-2.new.reader c.loop-row_no.row_texts.items
+    (fields_of c.read_next-2.new.csv_record) c.loop-row_no.invariant.0 reads
 
 pub returns-clause-faultless : goal.returns-clause-faultless
 returns-clause-faultless c = c.loop-row_no.invariant.0.faultless

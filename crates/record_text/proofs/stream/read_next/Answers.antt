@@ -8,6 +8,7 @@ returns c =
     elim c.match-read_byte_record.branch [
       | in-Ok w ↦ rw w.result-is (λ here at.
           let read = w.in-Ok.ensures in
-          next_place c.args.reader.now c.read_byte_record.new.self w.in-Ok.found (fields_of c.read_byte_record.new.row) here at (read.ready at.plain) read.flexible (read.reads at.plain at.ready))
+          next_place c.args.reader.now c.read_byte_record.new.self w.in-Ok.found (fields_of c.read_byte_record.new.row) here at
+          (read.ready at.plain) read.flexible (read.reads at.plain at.ready))
       | in-Err w ↦ rw w.result-is tt
     ]

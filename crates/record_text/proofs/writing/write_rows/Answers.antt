@@ -20,12 +20,18 @@ loop-texts-preserved c =
     let plain : (writer_setup c.loop-texts.writer).style ≢ style.NonNumeric = rw inv.0 (λ e. cc e) in
     let before : c.loop-texts.writer.wtr.inner.items ++ c.loop-texts.writer.wtr.buf ≡ records_text (take c.loop-texts.texts-index c.args.rows.now) = cc inv.3 in
     let bytes = rw (before, inv.0, c.as_record.ensures) at (on-ok c.write_byte_record.result good written.bytes inv.1 inv.2 plain) in
-    let more = records_text_more c.args.rows.now c.loop-texts.texts-index c.texts-item.result c.loop-texts-test.true c.texts-item.is in
-    (on-ok c.write_byte_record.result good written.setup ∙ inv.0, on-ok c.write_byte_record.result good written.ended, on-ok c.write_byte_record.result good written.clean, rw add-one (ap (λ (bs : List ℕ). Some bs) (bytes ∙ more)))
+    let more = records_text_more c.args.rows.now c.loop-texts.texts-index c.texts-item.result c.loop-texts-test.true c.texts-item.is in (
+      on-ok c.write_byte_record.result good written.setup
+          ∙ inv.0,
+      on-ok c.write_byte_record.result good written.ended,
+      on-ok c.write_byte_record.result good written.clean,
+      rw add-one (ap (λ (bs : List ℕ). Some bs) (bytes ∙ more)),
+    )
 
 pub returns-in-Ok : goal.returns-in-Ok
 returns-in-Ok c =
     let inv = c.loop-texts.invariant in
     let all = take_all c.loop-texts.texts-index c.args.rows.now c.loop-texts-test.false in
-    let written : c.loop-texts.writer.wtr.inner.items ++ c.loop-texts.writer.wtr.buf ≡ records_text (take c.loop-texts.texts-index c.args.rows.now) = cc inv.3 in
+    let written : c.loop-texts.writer.wtr.inner.items ++ c.loop-texts.writer.wtr.buf ≡ records_text (take c.loop-texts.texts-index c.args.rows.now) =
+    cc inv.3 in
     c.in-Ok.ensures.ok ∙ written ∙ ap records_text all

@@ -8,5 +8,7 @@ use Rattle.edit_language.proofs.draft.Draft.declare.Goals as goal
 pub invariant_of-self-2 : goal.invariant_of-self-2
 invariant_of-self-2 c =
     let survey : SurveyParts = survey_of c.self.inside.fields.items c.self.inside.rules.items in
-    let faultless : declaration_fault survey c.args.declaration ≡ None = subst (λ (s : SurveyParts). declaration_fault s c.args.declaration ≡ None) (sym c.self.view_is) c.requires.faultless in
-    rw (c.in_ok-push.ensures.items, c.in_ok-field_of.ensures) (extended_well_formed survey (statement.Declaration c.args.declaration) c.self.invariant c.requires.names faultless)
+    let faultless : declaration_fault survey c.args.declaration ≡ None =
+    subst (λ (s : SurveyParts). declaration_fault s c.args.declaration ≡ None) (sym c.self.view_is) c.requires.faultless in
+    rw (c.in_ok-push.ensures.items, c.in_ok-field_of.ensures)
+    (extended_well_formed survey (statement.Declaration c.args.declaration) c.self.invariant c.requires.names faultless)

@@ -9,10 +9,12 @@ returns-clause-written c =
     let good = sym c.is_err.ensures.value ∙ c.if-is_err.false in
     let handed = sym c.is_err-else-is_err.ensures.value ∙ c.if-is_err-2.false in
     let appends = rw c.as_record.ensures at (on-ok c.write_byte_record.result good c.write_byte_record.ensures.bytes) in
-    let more = gathered-more c.self.inside.writer c.write_byte_record.new.self c.flush.new.self c.args.texts.now c.self.invariant appends c.flush.ensures.bytes (on-ok c.flush.result handed c.flush.ensures.pending) in
+    let more = gathered-more c.self.inside.writer c.write_byte_record.new.self c.flush.new.self c.args.texts.now c.self.invariant appends c.flush.ensures.bytes
+    (on-ok c.flush.result handed c.flush.ensures.pending) in
     let all = c.deref.ensures.value ∙ ap (λ v. v.items) c.get_ref-2.ensures ∙ more in
     let begin : c.len-begin.result ≡ length c.self.inside.writer.wtr.inner.items = search rules in
     let before = c.self.view_is ∙ c.renew_writer.ensures in
     c.in_ok-extend_from_slice.ensures.items
-    ∙ ap (λ (bs : List ℕ). c.self.inside.text.items ++ bs) (gathered-behind c.deref.result.now c.self.inside.writer.wtr.inner.items (records_text (c.args.texts.now ∷ [])) c.len-begin.result all begin)
+    ∙ ap (λ (bs : List ℕ). c.self.inside.text.items ++ bs)
+    (gathered-behind c.deref.result.now c.self.inside.writer.wtr.inner.items (records_text (c.args.texts.now ∷ [])) c.len-begin.result all begin)
     ∙ ap (λ (bs : List ℕ). bs ++ records_text (c.args.texts.now ∷ [])) before

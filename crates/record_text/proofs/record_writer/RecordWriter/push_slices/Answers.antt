@@ -10,10 +10,12 @@ returns-clause-written c =
     let handed = sym c.is_err-else-is_err.ensures.value ∙ c.if-is_err-2.false in
     let texts = map (λ (text : Bor (List ℕ)). text.now) c.args.texts.now in
     let appends = on-ok c.write_fields.result good c.write_fields.ensures.bytes in
-    let more = gathered-more c.self.inside.writer c.write_fields.new.self c.flush.new.self texts c.self.invariant appends c.flush.ensures.bytes (on-ok c.flush.result handed c.flush.ensures.pending) in
+    let more = gathered-more c.self.inside.writer c.write_fields.new.self c.flush.new.self texts c.self.invariant appends c.flush.ensures.bytes
+    (on-ok c.flush.result handed c.flush.ensures.pending) in
     let all = c.deref.ensures.value ∙ ap (λ v. v.items) c.get_ref-2.ensures ∙ more in
     let begin : c.len-begin.result ≡ length c.self.inside.writer.wtr.inner.items = search rules in
     let before = c.self.view_is ∙ c.renew_writer.ensures in
     c.in_ok-extend_from_slice.ensures.items
-    ∙ ap (λ (bs : List ℕ). c.self.inside.text.items ++ bs) (gathered-behind c.deref.result.now c.self.inside.writer.wtr.inner.items (records_text (texts ∷ [])) c.len-begin.result all begin)
+    ∙ ap (λ (bs : List ℕ). c.self.inside.text.items ++ bs)
+    (gathered-behind c.deref.result.now c.self.inside.writer.wtr.inner.items (records_text (texts ∷ [])) c.len-begin.result all begin)
     ∙ ap (λ (bs : List ℕ). bs ++ records_text (texts ∷ [])) before

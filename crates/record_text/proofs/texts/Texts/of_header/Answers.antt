@@ -12,8 +12,12 @@ loop-text-preserved c =
     let inv = c.loop-text.invariant in
     let step = rw inv.0 at c.in-Some.ensures.steps in
     let added = rw inv.2 at c.in_ok-push_field.ensures.fields in
-    let shown = rw c.is_empty.ensures at c.header_text.ensures in
-    (ap (λ (row : _). row.now) step.0, added ∙ header_more _ _ c.in-Some.text.now c.header_text.result.now c.loop-text.text-iterator.at c.next.new.self.at inv.1 step.1 shown step.2, c.in_ok-push_field.ensures.partial)
+    let shown = rw c.is_empty.ensures at c.header_text.ensures in (
+      ap (λ (row : _). row.now) step.0,
+      added ∙ header_more _ _ c.in-Some.text.now c.header_text.result.now c.loop-text.text-iterator.at c.next.new.self.at inv.1
+          step.1 shown step.2,
+      c.in_ok-push_field.ensures.partial,
+    )
 
 pub returns : goal.returns
 returns c =

@@ -11,8 +11,11 @@ pub loop-text-preserved : goal.loop-text-preserved
 loop-text-preserved c =
     let inv = c.loop-text.invariant in
     let step = rw inv.0 at c.in-Some.ensures.steps in
-    let added = rw inv.2 at c.in_ok-push_field.ensures.fields in
-    (ap (λ (row : _). row.now) step.0, added ∙ copied_more _ _ c.in-Some.text.now c.loop-text.text-iterator.at c.next.new.self.at inv.1 step.1 step.2, c.in_ok-push_field.ensures.partial)
+    let added = rw inv.2 at c.in_ok-push_field.ensures.fields in (
+      ap (λ (row : _). row.now) step.0,
+      added ∙ copied_more _ _ c.in-Some.text.now c.loop-text.text-iterator.at c.next.new.self.at inv.1 step.1 step.2,
+      c.in_ok-push_field.ensures.partial,
+    )
 
 pub returns : goal.returns
 returns c =

@@ -9,5 +9,6 @@ pub loop-alloc-preserved : goal.loop-alloc-preserved
 loop-alloc-preserved c =
     let begun : begins (is_word keyword.And) c.loop-alloc.cursor ≡ true = search rules in
     let is : and_test_at c.loop-alloc.cursor ≡ Some (c.in_ok-and_test.field-0, c.and_test.new.cursor) = search rules in
-    let more = many_more (is_word keyword.And) and_test_at and_test_shortens c.loop-alloc.tests.items c.in_ok-and_test.field-0 c.loop-alloc.cursor c.and_test.new.cursor begun is in
+    let more = many_more (is_word keyword.And) and_test_at and_test_shortens c.loop-alloc.tests.items c.in_ok-and_test.field-0 c.loop-alloc.cursor
+    c.and_test.new.cursor begun is in
     rw (c.in_ok-push-2.ensures.items) (sym more ∙ c.loop-alloc.invariant)

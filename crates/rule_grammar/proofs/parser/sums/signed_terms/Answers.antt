@@ -8,5 +8,6 @@ pub loop-cursor-preserved : goal.loop-cursor-preserved
 loop-cursor-preserved c =
     let begun : begins is_sign c.loop-cursor.cursor ≡ true = search rules in
     let is : signed_term_at c.loop-cursor.cursor ≡ Some (c.in_ok-next.next, c.signed_term.new.cursor) = search rules in
-    let more = many_more is_sign signed_term_at signed_term_shortens c.loop-cursor.terms.items c.in_ok-next.next c.loop-cursor.cursor c.signed_term.new.cursor begun is in
+    let more = many_more is_sign signed_term_at signed_term_shortens c.loop-cursor.terms.items c.in_ok-next.next c.loop-cursor.cursor c.signed_term.new.cursor
+    begun is in
     rw (c.in_ok-push.ensures.items) (sym more ∙ c.loop-cursor.invariant)

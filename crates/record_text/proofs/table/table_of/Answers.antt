@@ -3,27 +3,26 @@ use Rattle.std.proofs.lemmas.Result.{err_from_is_err_and}
 use Rattle.csv.specs.Records.{fields_of}
 use Rattle.record_text.specs.Tables.{most_table_rows}
 use Rattle.record_text.proofs.FaultLaws.{faultless_few}
-use Rattle.record_text.proofs.FirstRecord.{start_of}
+use Rattle.record_text.specs.inner.Places.{start_of}
 use Rattle.record_text.proofs.HeaderLaws.{header_length}
 use Rattle.record_text.proofs.TableRead.{faulty_texts, no_table, table_read}
-use Rattle.record_text.proofs.table.header_and_rows.Goals as goal
+use Rattle.record_text.proofs.table.table_of.Goals as goal
 
 pub returns-then-not-branch-clause-fault : goal.returns-then-not-branch-clause-fault
-returns-then-not-branch-clause-fault c = λ other.
-    let at = rw c.without_mark.ensures at c.open_records-reader.ensures in
+returns-then-not-branch-clause-fault c = λ other bytes at.
     let reads = rw c.if-not-branch.true at c.in_ok-read_next.ensures in
-    no_table c.args.bytes.now (reads (start_of c.args.bytes.now) at)
+    no_table bytes (reads (start_of bytes) at)
 
 pub returns-in_err-rows-clause-fault : goal.returns-in_err-rows-clause-fault
 returns-in_err-rows-clause-fault c =
     let p = err_from_is_err_and c.from_residual-in_err-rows.result c.from_residual-in_err-rows.ensures.1 in
-    let at = rw c.without_mark.ensures at c.open_records-reader.ensures in
     let reads = rw c.if-not-branch.false at c.in_ok-read_next.ensures in
-    let (there, standing, begins) = reads (start_of c.args.bytes.now) at in
     let texts = fields_of c.read_next.new.csv_record in
     let width = c.len.ensures ∙ ap (λ (ts : List (List ℕ)). length ts) c.in_ok-header.ensures ∙ header_length texts in
     let found = rw width at c.in_err-rows.ensures.fault in
-    rw p.1 (λ other. rw p.2 (faulty_texts c.args.bytes.now texts there begins c.in_err-rows.field-0.0 (found (rw p.2 at other) there standing)))
+    rw p.1 (λ other bytes at.
+    let (there, standing, begins) = reads (start_of bytes) at in
+    rw p.2 (faulty_texts bytes texts there begins c.in_err-rows.field-0.0 (found (rw p.2 at other) there standing)))
 
 pub invariant_of-result : goal.invariant_of-result
 invariant_of-result c =
@@ -31,10 +30,10 @@ invariant_of-result c =
     omega (arith, few)
 
 pub returns-clause-table : goal.returns-clause-table
-returns-clause-table c =
-    let at = rw c.without_mark.ensures at c.open_records-reader.ensures in
+returns-clause-table c = λ bytes at.
     let reads = rw c.if-not-branch.false at c.in_ok-read_next.ensures in
-    let (there, standing, begins) = reads (start_of c.args.bytes.now) at in
+    let (there, standing, begins) = reads (start_of bytes) at in
     let texts = fields_of c.read_next.new.csv_record in
     let width = c.len.ensures ∙ ap (λ (ts : List (List ℕ)). length ts) c.in_ok-header.ensures ∙ header_length texts in
-    table_read c.args.bytes.now texts there begins _ c.in_ok-header.ensures (c.in_ok-rows.ensures.records there standing) (rw width at c.in_ok-rows.ensures.faultless)
+    table_read bytes texts there begins _ c.in_ok-header.ensures (c.in_ok-rows.ensures.records there standing)
+    (rw width at c.in_ok-rows.ensures.faultless)
