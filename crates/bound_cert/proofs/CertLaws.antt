@@ -32,7 +32,8 @@ use Rattle.bound_cert.proofs.TreeLaws.{Agree, one-agrees}
 -- What a valid tree shows.
 
 module _ (c : TreeCase) (are : IsRow c.survey.fields c.row) (over : AreOver (shape_of c.survey.fields) c.given) where
-  module _ (p : Point) (held : HasCodesFrom 0 c.survey.fields p) (hold : AllHold (usable_lines c.given c.usable) p) (path : List Bool) (agrees : Agree path (word_of c.survey c.row p)) where
+  module _ (p : Point) (held : HasCodesFrom 0 c.survey.fields p) (hold : AllHold (usable_lines c.given c.usable) p) (path : List Bool)
+      (agrees : Agree path (word_of c.survey c.row p)) where
     agrees-there : (f : ℕ) → IsIn f (kept_in (path_order c.survey.fields) path) → differs_from (value_of c.row f) p f ≡ false
     agrees-there f there = kept-agrees (λ g. differs_from (value_of c.row g) p g) (path_order c.survey.fields) path agrees f there
 
@@ -43,17 +44,21 @@ module _ (c : TreeCase) (are : IsRow c.survey.fields c.row) (over : AreOver (sha
     shaped = HasCodes-shape 0 c.survey.fields p held
 
     inside : (sets : List ℕ) → sets ≡ whole_sets (shape_of c.survey.fields) → AreCodesIn sets (codes_at (shape_of c.survey.fields) p)
-    inside sets whole = subst (λ (ss : List ℕ). AreCodesIn ss (codes_at (shape_of c.survey.fields) p)) (sym whole) ((is_inside-Decides _ _).0 (wholes-inside (shape_of c.survey.fields) p shaped))
+    inside sets whole = subst (λ (ss : List ℕ). AreCodesIn ss (codes_at (shape_of c.survey.fields) p)) (sym whole)
+        ((is_inside-Decides _ _).0 (wholes-inside (shape_of c.survey.fields) p shaped))
 
     -- a path that is refuted has no such point
     not-refuted : (steps : List Step) (last : Proved) → AreValidSteps (premises_at c path) steps last → Refutes (premises_at c path) last → ⊥
     not-refuted steps (proved.Box code_box) valid whole =
-        let (shown, of_shape) = steps-shown (premises_at c path) c.survey.fields steps (proved.Box code_box) refl are (kept-held c.survey.fields c.row path) over valid in
+        let (shown, of_shape) = steps-shown (premises_at c path) c.survey.fields steps (proved.Box code_box) refl are (kept-held c.survey.fields c.row path)
+        over valid in
         shown p shaped agrees-kept hold (inside code_box.sets whole)
     not-refuted steps (proved.Line line) valid (whole, fails) =
-        let (shown, of_shape) = steps-shown (premises_at c path) c.survey.fields steps (proved.Line line) refl are (kept-held c.survey.fields c.row path) over valid in
+        let (shown, of_shape) = steps-shown (premises_at c path) c.survey.fields steps (proved.Line line) refl are (kept-held c.survey.fields c.row path) over
+        valid in
         let (kept, false_there) = both_true _ _ fails in
-        failed-outside c.survey.fields c.row (kept_set c.survey.fields c.row path) line are (kept-held c.survey.fields c.row path) of_shape kept false_there p agrees-kept (shown p hold)
+        failed-outside c.survey.fields c.row (kept_set c.survey.fields c.row path) line are (kept-held c.survey.fields c.row path) of_shape kept false_there p
+        agrees-kept (shown p hold)
         (subst (λ (s : List Domain). AreCodesIn line.sets (codes_at s p)) (sym of_shape) (inside line.sets whole))
 
     -- a valid leaf weighs enough
@@ -74,9 +79,11 @@ module _ (c : TreeCase) (are : IsRow c.survey.fields c.row) (over : AreOver (sha
   tree-shows leaves valid p held hold =
       let (path, there, agrees) = one-agrees valid.full.0 (word_of c.survey c.row p) in
       let (leaf, found, same) = in-map-out (λ (l : Leaf). l.path) path leaves (subst (λ (ps : List (List Bool)). IsIn path ps) (sym valid.full.1) there) in
-      leaf-weighs p held hold leaf.path (subst (λ (q : List Bool). Agree q (word_of c.survey c.row p)) same agrees) leaf.why (in-each leaves valid.each leaf found)
+      leaf-weighs p held hold leaf.path (subst (λ (q : List Bool). Agree q (word_of c.survey c.row p)) same agrees) leaf.why
+      (in-each leaves valid.each leaf found)
     where
-      in-each : (ls : List Leaf) → AllByRecursion (λ (leaf : Leaf). IsValidLeaf c leaf.path leaf.why) ls → (leaf : Leaf) → IsIn leaf ls → IsValidLeaf c leaf.path leaf.why
+      in-each : (ls : List Leaf) → AllByRecursion (λ (leaf : Leaf). IsValidLeaf c leaf.path leaf.why) ls → (leaf : Leaf) → IsIn leaf ls
+          → IsValidLeaf c leaf.path leaf.why
       in-each [] each leaf found = absurd found
       in-each (l ∷ ls) each leaf (inl same) = subst (λ (x : Leaf). IsValidLeaf c x.path x.why) (sym same) each.0
       in-each (l ∷ ls) each leaf (inr found) = in-each ls each.1 leaf found

@@ -1,4 +1,5 @@
-use Rattle.std.proofs.Common.{◌≡◌, ◌≢◌, ◌⊎◌, ℕ, zero, suc, ◌<◌, ◌≤◌, nat_le, Bool, true, List, [], ◌∷◌, Option, Some, None, IfSome, Result, Ok, Err, length, map, inl, inr, refl, sym, ap, ◌∙◌, subst, arith}
+use Rattle.std.proofs.Common.{◌≡◌, ◌≢◌, ◌⊎◌, ℕ, zero, suc, ◌<◌, ◌≤◌, nat_le, Bool, true, List, [], ◌∷◌, Option, Some, None, IfSome, Result, Ok, Err, length}
+use Rattle.std.proofs.Common.{map, inl, inr, refl, sym, ap, ◌∙◌, subst, arith}
 use Rattle.std.specs.List.{AllByRecursion}
 use Rattle.std.specs.Result.{result_err}
 use Rattle.std.proofs.lemmas.Bool.Decides.{nat_tests}
@@ -9,7 +10,8 @@ use Rattle.derivation.specs.declared.proved.Proved.{Proved}
 use Rattle.derivation.specs.declared.step.Step.{Step}
 use Rattle.derivation.proofs.Places.{place-steps_result}
 use Rattle.bound_cert.specs.Trees.{all_kept, may_end, may_stand}
-use Rattle.bound_cert.specs.ValidTrees.{IsFaultBehind, IsFirstFault, IsNamedIn, IsValidLeaf, IsValidTree, TreeCase, first_invalid, invalid_step, is_right, premises_at, steps_in}
+use Rattle.bound_cert.specs.ValidTrees.{IsFaultBehind, IsFirstFault, IsNamedIn, IsValidLeaf, IsValidTree, TreeCase, first_invalid, invalid_step, is_right}
+use Rattle.bound_cert.specs.ValidTrees.{premises_at, steps_in}
 use Rattle.bound_cert.specs.declared.cert.Leaf.{Leaf}
 use Rattle.bound_cert.specs.declared.cert.LeafWhy.{LeafWhy}
 use Rattle.bound_cert.specs.declared.cert.LeafWhy.TheVariants as why
@@ -73,8 +75,12 @@ module _ (c : TreeCase) where
       → AreShort c (leaf ∷ later) → AreValid c (leaf ∷ later) → AreRight c before (leaf ∷ later)
   right-rest before leaf [] stands order short valid = (true-both _ _ stands (true-both _ _ (ends-rest leaf.path [] order) (true-le _ _ short.0)), valid.0, tt)
   right-rest before leaf (next ∷ later) stands order short valid =
-      let (here, rest) = both_true _ _ order in
-      (true-both _ _ stands (true-both _ _ (ends-rest leaf.path (next ∷ later) order) (true-le _ _ short.0)), valid.0, right-rest (Some leaf.path) next later here rest short.1 valid.1)
+      let (here, rest) = both_true _ _ order in (
+        true-both _ _ stands (true-both _ _ (ends-rest leaf.path (next ∷ later) order) (true-le _ _ short.0)),
+        valid.0,
+        right-rest (Some leaf.path) next later
+            here rest short.1 valid.1,
+      )
 
   pub valid-all_right : (leaf : Leaf) (later : List Leaf) → IsValidTree c (leaf ∷ later) → AreRight c None (leaf ∷ later)
   valid-all_right leaf later valid =
@@ -82,9 +88,11 @@ module _ (c : TreeCase) where
       let whole = valid.full.1 ∙ same in
       let here : leaf.path ≡ p = cc in
       let behind : paths later ≡ rest = cc in
-      right-rest None leaf later (ap all_kept here ∙ start) (ap (λ (q : List Bool). are_rest q (paths later)) here ∙ ap (are_rest p) behind ∙ order) valid.depth valid.each
+      right-rest None leaf later (ap all_kept here ∙ start) (ap (λ (q : List Bool). are_rest q (paths later)) here ∙ ap (are_rest p) behind ∙ order) valid.depth
+      valid.each
 
-  right-faultless : (before : Option (List Bool)) (leaves : List Leaf) (place : ℕ) (step : Option ℕ) → AreRight c before leaves → IsFaultBehind c before leaves place step → ⊥
+  right-faultless : (before : Option (List Bool)) (leaves : List Leaf) (place : ℕ) (step : Option ℕ) → AreRight c before leaves
+      → IsFaultBehind c before leaves place step → ⊥
   right-faultless before [] place step right fault = fault
   right-faultless before (leaf ∷ later) zero step right (inl wrong) = absurd (cc (sym right.0 ∙ wrong.0))
   right-faultless before (leaf ∷ later) zero step right (inr bad) = bad.1 right.1
@@ -101,7 +109,8 @@ module _ (c : TreeCase) where
   faultless-valid (leaf ∷ later) some right = right-valid leaf later right
 
   -- there is one first fault
-  pub one-fault : (before : Option (List Bool)) (leaves : List Leaf) (place other : ℕ) (step another : Option ℕ) → IsFaultBehind c before leaves place step → IsFaultBehind c before leaves other another → (place ≡ other) × (step ≡ another)
+  pub one-fault : (before : Option (List Bool)) (leaves : List Leaf) (place other : ℕ) (step another : Option ℕ) → IsFaultBehind c before leaves place step
+      → IsFaultBehind c before leaves other another → (place ≡ other) × (step ≡ another)
   one-fault before [] place other step another first second = absurd first
   one-fault before (leaf ∷ later) zero zero step another (inl a) (inl b) = (refl, a.1 ∙ sym b.1)
   one-fault before (leaf ∷ later) zero zero step another (inl a) (inr b) = absurd (cc (sym a.0 ∙ b.0))
@@ -120,7 +129,8 @@ first-within : (p : Premises) (steps : List Step) → IfSome (first_invalid p st
 first-within p [] = tt
 first-within p (step ∷ steps) = by (steps_result p (step ∷ steps)) (place-steps_result p (step ∷ steps))
   where
-    by : (r : Result Proved ℕ) → ((place : ℕ) → r ≡ Err place → ((step ∷ steps ≡ []) × (place ≡ 0)) ⊎ (place < length (step ∷ steps))) → IfSome (result_err r) (λ s. s < length (step ∷ steps))
+    by : (r : Result Proved ℕ) → ((place : ℕ) → r ≡ Err place → ((step ∷ steps ≡ []) × (place ≡ 0)) ⊎ (place < length (step ∷ steps)))
+        → IfSome (result_err r) (λ s. s < length (step ∷ steps))
     by (Ok proved) named = tt
     by (Err place) named = within (named place refl)
       where
@@ -135,12 +145,15 @@ step-within c path (why.Line steps) = first-within (premises_at c path) steps
 step-within c path (why.Box steps) = first-within (premises_at c path) steps
 
 -- a fault is at a leaf, and its step is one of that leaf
-pub fault-named : (c : TreeCase) (before : Option (List Bool)) (leaves : List Leaf) (place : ℕ) (step : Option ℕ) → IsFaultBehind c before leaves place step → IsNamedIn leaves place step
+pub fault-named : (c : TreeCase) (before : Option (List Bool)) (leaves : List Leaf) (place : ℕ) (step : Option ℕ) → IsFaultBehind c before leaves place step
+    → IsNamedIn leaves place step
 fault-named c before [] place step fault = absurd fault
 fault-named c before (leaf ∷ later) zero step (inl wrong) = subst (λ (s : Option ℕ). IfSome s (λ n. n < length (steps_in leaf.why))) (sym wrong.1) tt
-fault-named c before (leaf ∷ later) zero step (inr bad) = subst (λ (s : Option ℕ). IfSome s (λ n. n < length (steps_in leaf.why))) (sym bad.2) (step-within c leaf.path leaf.why)
+fault-named c before (leaf ∷ later) zero step (inr bad) = subst (λ (s : Option ℕ). IfSome s (λ n. n < length (steps_in leaf.why))) (sym bad.2)
+    (step-within c leaf.path leaf.why)
 fault-named c before (leaf ∷ later) (suc place) step fault = fault-named c (Some leaf.path) later place step fault.2
 
-pub first-named : (c : TreeCase) (leaves : List Leaf) (place : ℕ) (step : Option ℕ) → IsFirstFault c leaves place step → ((leaves ≡ []) × (place ≡ 0) × (step ≡ None)) ⊎ IsNamedIn leaves place step
+pub first-named : (c : TreeCase) (leaves : List Leaf) (place : ℕ) (step : Option ℕ) → IsFirstFault c leaves place step
+    → ((leaves ≡ []) × (place ≡ 0) × (step ≡ None)) ⊎ IsNamedIn leaves place step
 first-named c [] place step (first, none) = inl (refl, first, none)
 first-named c (leaf ∷ later) place step fault = inr (fault-named c None (leaf ∷ later) place step fault)

@@ -1,4 +1,5 @@
-use Rattle.std.proofs.Common.{◌≡◌, ◌≢◌, ℕ, zero, suc, ◌+◌, ◌<◌, ◌≤◌, Bool, List, [], ◌∷◌, Option, Some, None, drop, get_or, length, refl, sym, subst, add-one, arith}
+use Rattle.std.proofs.Common.{◌≡◌, ◌≢◌, ℕ, zero, suc, ◌+◌, ◌<◌, ◌≤◌, Bool, List, [], ◌∷◌, Option, Some, None, drop, get_or, length, refl, sym, subst, add-one}
+use Rattle.std.proofs.Common.{arith}
 use Rattle.std.proofs.lemmas.List.{drop_all}
 use Rattle.bound_cert.specs.inner.Tasks.{SaysAt, SaysOfPlace, path_before}
 use Rattle.bound_cert.specs.ValidTrees.{TreeCase, IsFaultBehind, IsFirstFault, IsValidTree}
@@ -28,15 +29,23 @@ found (y ∷ xs) (suc i) x rest e = let (below, same, behind) = found xs i x res
 
 module _ (c : TreeCase) (leaves : List Leaf) (i : ℕ) where
   -- and behind a valid leaf
-  goes-behind : (leaf : Leaf) (later : List Leaf) → drop i leaves ≡ leaf ∷ later → GoesOn c leaves i → SaysAt c (path_before leaves i) leaf later verdict.Valid → GoesOn c leaves (suc i)
+  goes-behind : (leaf : Leaf) (later : List Leaf) → drop i leaves ≡ leaf ∷ later → GoesOn c leaves i → SaysAt c (path_before leaves i) leaf later verdict.Valid
+      → GoesOn c leaves (suc i)
   goes-behind leaf later here goes (right, valid) =
       let (below, same, behind) = found leaves i leaf later here in
       let before = path_before-at leaves i leaf below same in
       let back : List Leaf → Type 0 = λ ls. AreRight c (path_before leaves i) ls in (
-        λ rest. goes.0 (subst back (sym here) (right, valid, subst (λ (ls : List Leaf). AreRight c (Some leaf.path) ls) behind (subst (λ (b : Option (List Bool)). AreRight c b (drop (suc i) leaves)) before rest))),
+        λ rest. goes.0 (subst back (sym here) (
+          right,
+          valid,
+          subst (λ (ls : List Leaf). AreRight c (Some leaf.path) ls) behind
+              (subst (λ (b : Option (List Bool)). AreRight c b (drop (suc i) leaves)) before rest),
+        )),
         λ k step fault.
-            let there = subst (λ (ls : List Leaf). IsFaultBehind c (Some leaf.path) ls k step) behind (subst (λ (b : Option (List Bool)). IsFaultBehind c b (drop (suc i) leaves) k step) before fault) in
-            subst (λ (n : ℕ). IsFaultBehind c None leaves n step) (omega arith) (goes.1 (suc k) step (subst (λ (ls : List Leaf). IsFaultBehind c (path_before leaves i) ls (suc k) step) (sym here) (right, valid, there))),
+            let there = subst (λ (ls : List Leaf). IsFaultBehind c (Some leaf.path) ls k step) behind
+            (subst (λ (b : Option (List Bool)). IsFaultBehind c b (drop (suc i) leaves) k step) before fault) in
+            subst (λ (n : ℕ). IsFaultBehind c None leaves n step) (omega arith)
+            (goes.1 (suc k) step (subst (λ (ls : List Leaf). IsFaultBehind c (path_before leaves i) ls (suc k) step) (sym here) (right, valid, there))),
       )
 
   pub goes-more : GoesOn c leaves i → SaysOfPlace c leaves i (drop i leaves) verdict.Valid → GoesOn c leaves (i + 1)
@@ -60,4 +69,5 @@ module _ (c : TreeCase) (leaves : List Leaf) (i : ℕ) where
 
   -- past the last leaf the tree is valid
   pub all-valid : length leaves ≤ i → leaves ≢ [] → GoesOn c leaves i → IsValidTree c leaves
-  all-valid past some goes = faultless-valid c leaves some (goes.0 (subst (λ (ls : List Leaf). AreRight c (path_before leaves i) ls) (sym (drop_all i leaves past)) tt))
+  all-valid past some goes = faultless-valid c leaves some
+      (goes.0 (subst (λ (ls : List Leaf). AreRight c (path_before leaves i) ls) (sym (drop_all i leaves past)) tt))

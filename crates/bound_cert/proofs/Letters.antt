@@ -1,4 +1,5 @@
-use Rattle.std.proofs.Common.{◌≡◌, ℕ, zero, suc, ◌<◌, ◌==◌, ◌&&◌, ◌||◌, not, Bool, true, false, cond, if◌then◌else◌, List, [], ◌∷◌, ◌++◌, slice_index_or, inl, inr, refl, sym, ap, ◌∙◌, arith}
+use Rattle.std.proofs.Common.{◌≡◌, ℕ, zero, suc, ◌<◌, ◌==◌, ◌&&◌, ◌||◌, not, Bool, true, false, cond, if◌then◌else◌, List, [], ◌∷◌, ◌++◌, slice_index_or, inl}
+use Rattle.std.proofs.Common.{inr, refl, sym, ap, ◌∙◌, arith}
 use Rattle.std.specs.List.{filter, list_any}
 use Rattle.std.proofs.lemmas.Bool.Decides.{Decides-eqb}
 use Rattle.edit_model.proofs.ChangedWords.{changed_in}
@@ -63,7 +64,8 @@ none-before : (test : Kind → Bool) (i : ℕ) (fields : List Field) (f : ℕ) �
 none-before test i [] f below = refl
 none-before test i (field ∷ fields) f below = by (test field.kind) (none-before test (suc i) fields f (omega arith))
   where
-    by : (b : Bool) → has_field (numbers_from test (suc i) fields) f ≡ false → has_field (if b then i ∷ numbers_from test (suc i) fields else numbers_from test (suc i) fields) f ≡ false
+    by : (b : Bool) → has_field (numbers_from test (suc i) fields) f ≡ false
+        → has_field (if b then i ∷ numbers_from test (suc i) fields else numbers_from test (suc i) fields) f ≡ false
     by true rest = neither (i == f) _ (differ i f below) rest
     by false rest = rest
 
@@ -71,12 +73,14 @@ distinct-from : (test : Kind → Bool) (i : ℕ) (fields : List Field) → AreDi
 distinct-from test i [] = tt
 distinct-from test i (field ∷ fields) = by (test field.kind) (distinct-from test (suc i) fields)
   where
-    by : (b : Bool) → AreDistinct (numbers_from test (suc i) fields) → AreDistinct (if b then i ∷ numbers_from test (suc i) fields else numbers_from test (suc i) fields)
+    by : (b : Bool) → AreDistinct (numbers_from test (suc i) fields)
+        → AreDistinct (if b then i ∷ numbers_from test (suc i) fields else numbers_from test (suc i) fields)
     by true rest = (none-before test (suc i) fields i (omega arith), rest)
     by false rest = rest
 
 -- one of a kind is not of the other
-apart-from : (test : Kind → Bool) (i : ℕ) (fields : List Field) (f : ℕ) → has_field (numbers_from test i fields) f ≡ true → has_field (numbers_from (λ k. not (test k)) i fields) f ≡ false
+apart-from : (test : Kind → Bool) (i : ℕ) (fields : List Field) (f : ℕ) → has_field (numbers_from test i fields) f ≡ true
+    → has_field (numbers_from (λ k. not (test k)) i fields) f ≡ false
 apart-from test i [] f there = absurd (cc)
 apart-from test i (field ∷ fields) f there = by (test field.kind) (apart-from test (suc i) fields f) there
   where
@@ -99,7 +103,8 @@ apart-from test i (field ∷ fields) f there = by (test field.kind) (apart-from 
 -- each field stands once in path order
 pub order-distinct : (fields : List Field) → AreDistinct (path_order fields)
 order-distinct fields =
-    distinct-append (numbers_from is_numerical 0 fields) (numbers_from (λ k. not (is_numerical k)) 0 fields) (distinct-from is_numerical 0 fields) (distinct-from (λ k. not (is_numerical k)) 0 fields) (apart-from is_numerical 0 fields)
+    distinct-append (numbers_from is_numerical 0 fields) (numbers_from (λ k. not (is_numerical k)) 0 fields) (distinct-from is_numerical 0 fields)
+    (distinct-from (λ k. not (is_numerical k)) 0 fields) (apart-from is_numerical 0 fields)
 
 -- ---- the letters at the places of distinct fields
 
@@ -115,7 +120,8 @@ other-field g f fields none there = by (g == f) (Decides-eqb g f).0
 pub filter-agree : (t u : ℕ → Bool) (xs : List ℕ) → ((x : ℕ) → IsIn x xs → t x ≡ u x) → filter t xs ≡ filter u xs
 filter-agree t u [] same = refl
 filter-agree t u (x ∷ xs) same =
-    ap (λ b. cond b (x ∷ filter t xs) (filter t xs)) (same x (inl refl)) ∙ ap (λ ys. cond (u x) (x ∷ ys) ys) (filter-agree t u xs (λ y there. same y (inr there)))
+    ap (λ b. cond b (x ∷ filter t xs) (filter t xs)) (same x (inl refl)) ∙ ap (λ ys. cond (u x) (x ∷ ys) ys)
+    (filter-agree t u xs (λ y there. same y (inr there)))
 
 filter-none : (t : ℕ → Bool) (xs : List ℕ) → ((x : ℕ) → t x ≡ false) → filter t xs ≡ []
 filter-none t [] none = refl
@@ -144,11 +150,13 @@ letters-beside test missing (g ∷ order) (letter ∷ path) fails (apart, distin
 
     split : at_place g ≡ test letter → filter (λ f. test (slice_index_or path (place_in order f) missing)) order ≡ beside_letters test order path
         → filter at_place (g ∷ order) ≡ beside_letters test (g ∷ order) (letter ∷ path)
-    split is rest = ap (λ b. cond b (g ∷ filter at_place order) (filter at_place order)) is ∙ ap (λ ys. cond (test letter) (g ∷ ys) ys) (filter-agree at_place _ order later ∙ rest)
+    split is rest = ap (λ b. cond b (g ∷ filter at_place order) (filter at_place order)) is
+        ∙ ap (λ ys. cond (test letter) (g ∷ ys) ys) (filter-agree at_place _ order later ∙ rest)
 
 -- the fields that a path changes are those beside a letter that says so
 pub changes-beside : (fields : List Field) (path : List Bool) → filter (changes fields path) (path_order fields) ≡ changed_in (path_order fields) path
-changes-beside fields path = letters-beside (λ changed. changed) false (path_order fields) path refl (order-distinct fields) ∙ beside-changed (path_order fields) path
+changes-beside fields path = letters-beside (λ changed. changed) false (path_order fields) path refl (order-distinct fields)
+    ∙ beside-changed (path_order fields) path
 
 pub keeps-beside : (fields : List Field) (path : List Bool) → filter (keeps fields path) (path_order fields) ≡ kept_in (path_order fields) path
 keeps-beside fields path = letters-beside not true (path_order fields) path refl (order-distinct fields)

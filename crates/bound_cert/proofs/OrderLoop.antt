@@ -1,4 +1,5 @@
-use Rattle.std.proofs.Common.{◌≡◌, ◌≢◌, ℕ, zero, suc, ◌+◌, ◌<◌, ◌≤◌, ◌&&◌, not, Bool, true, false, List, [], ◌∷◌, Some, drop, get_or, length, refl, sym, ap, ◌∙◌, add-one, arith}
+use Rattle.std.proofs.Common.{◌≡◌, ◌≢◌, ℕ, zero, suc, ◌+◌, ◌<◌, ◌≤◌, ◌&&◌, not, Bool, true, false, List, [], ◌∷◌, Some, drop, get_or, length, refl, sym, ap}
+use Rattle.std.proofs.Common.{◌∙◌, add-one, arith}
 use Rattle.std.specs.Bool.{beq}
 use Rattle.std.proofs.Math.Seq.{drop-cons}
 use Rattle.std.proofs.lemmas.List.{drop_all}
@@ -11,7 +12,8 @@ use Rattle.bound_cert.specs.declared.cert.Leaf.{Leaf}
 -- a function of what is left of two lists, with the next element of both
 pub at_both : {X Y Z : Type 0} (F : List X → List Y → Z) (xs : List X) (ys : List Y) (i : ℕ) (d : X) (e : Y) → i < length xs → i < length ys
     → F (drop i xs) (drop i ys) ≡ F (get_or xs i d ∷ drop (i + 1) xs) (get_or ys i e ∷ drop (i + 1) ys)
-at_both F xs ys i d e within below = rw (add-one) (ap (λ zs. F zs (drop i ys)) (drop-cons xs i d within) ∙ ap (λ zs. F (get_or xs i d ∷ drop (suc i) xs) zs) (drop-cons ys i e below))
+at_both F xs ys i d e within below = rw (add-one) (ap (λ zs. F zs (drop i ys)) (drop-cons xs i d within)
+    ∙ ap (λ zs. F (get_or xs i d ∷ drop (suc i) xs) zs) (drop-cons ys i e below))
 
 next-none : (first : List Bool) → comes_next first [] ≡ false
 next-none [] = refl
@@ -19,10 +21,13 @@ next-none (true ∷ first) = refl
 next-none (false ∷ first) = refl
 
 -- where one path ends, the other does not come next
-pub next-ended : (first second : List Bool) (i : ℕ) → length second ≤ i → comes_next (drop i first) (drop i second) ≡ comes_next first second → false ≡ comes_next first second
-next-ended first second i past before = sym (next-none (drop i first)) ∙ ap (λ (q : List Bool). comes_next (drop i first) q) (sym (drop_all i second past)) ∙ before
+pub next-ended : (first second : List Bool) (i : ℕ) → length second ≤ i → comes_next (drop i first) (drop i second) ≡ comes_next first second → false
+    ≡ comes_next first second
+next-ended first second i past before = sym (next-none (drop i first)) ∙ ap (λ (q : List Bool). comes_next (drop i first) q) (sym (drop_all i second past))
+    ∙ before
 
-pub next-begun : (first second : List Bool) (i : ℕ) → length first ≤ i → comes_next (drop i first) (drop i second) ≡ comes_next first second → false ≡ comes_next first second
+pub next-begun : (first second : List Bool) (i : ℕ) → length first ≤ i → comes_next (drop i first) (drop i second) ≡ comes_next first second → false
+    ≡ comes_next first second
 next-begun first second i past before = ap (λ (q : List Bool). comes_next q (drop i second)) (sym (drop_all i first past)) ∙ before
 
 -- equal letters, and others
@@ -48,7 +53,8 @@ next-same false true first second same = absurd (cc)
 pub next-more : (first second : List Bool) (i : ℕ) → i < length first → i < length second → not (beq (get_or first i false) (get_or second i false)) ≡ false
     → comes_next (drop i first) (drop i second) ≡ comes_next first second → comes_next (drop (i + 1) first) (drop (i + 1) second) ≡ comes_next first second
 next-more first second i within below same before =
-    sym (next-same (get_or first i false) (get_or second i false) (drop (i + 1) first) (drop (i + 1) second) (same-letters _ _ same)) ∙ sym (at_both comes_next first second i false false within below) ∙ before
+    sym (next-same (get_or first i false) (get_or second i false) (drop (i + 1) first) (drop (i + 1) second) (same-letters _ _ same))
+    ∙ sym (at_both comes_next first second i false false within below) ∙ before
 
 -- at a letter that differs
 next-differs : (a b : Bool) (first second : List Bool) → a ≢ b → comes_next (a ∷ first) (b ∷ second) ≡ (not a && (all_changed first && all_kept second))
@@ -58,9 +64,11 @@ next-differs true false first second apart = refl
 next-differs false true first second apart = refl
 
 pub next-decided : (first second : List Bool) (i : ℕ) → i < length first → i < length second → not (beq (get_or first i false) (get_or second i false)) ≡ true
-    → comes_next (drop i first) (drop i second) ≡ comes_next first second → (not (get_or first i false) && (all_changed (drop (i + 1) first) && all_kept (drop (i + 1) second))) ≡ comes_next first second
+    → comes_next (drop i first) (drop i second) ≡ comes_next first second
+    → (not (get_or first i false) && (all_changed (drop (i + 1) first) && all_kept (drop (i + 1) second))) ≡ comes_next first second
 next-decided first second i within below apart before =
-    sym (next-differs (get_or first i false) (get_or second i false) (drop (i + 1) first) (drop (i + 1) second) (apart-letters _ _ apart)) ∙ sym (at_both comes_next first second i false false within below) ∙ before
+    sym (next-differs (get_or first i false) (get_or second i false) (drop (i + 1) first) (drop (i + 1) second) (apart-letters _ _ apart))
+    ∙ sym (at_both comes_next first second i false false within below) ∙ before
 
 -- the path of the leaf before
 pub path_before-at : (leaves : List Leaf) (i : ℕ) (leaf : Leaf) → i < length leaves → leaf ≡ get_or leaves i leaf → path_before leaves (suc i) ≡ Some leaf.path

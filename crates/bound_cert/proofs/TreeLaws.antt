@@ -22,7 +22,8 @@ are_rest before (path ∷ later) = comes_next before path && are_rest path later
 -- ---- from the order to the tree
 
 -- behind a path that changes the first field all do
-behind : (q : List Bool) (rest : List (List Bool)) → are_rest (true ∷ q) rest ≡ true → (changed : List (List Bool)) × (rest ≡ map change changed) × (are_rest q changed ≡ true)
+behind : (q : List Bool) (rest : List (List Bool)) → are_rest (true ∷ q) rest ≡ true → (changed : List (List Bool)) × (rest ≡ map change changed)
+    × (are_rest q changed ≡ true)
 behind q [] h = ([], refl, h)
 behind q ([] ∷ rest) h = absurd (cc)
 behind q ((false ∷ s) ∷ rest) h = absurd (cc)
@@ -48,10 +49,12 @@ parted p ((true ∷ s) ∷ rest) h =
     ([], s, changed, ap (λ (ps : List (List Bool)). (true ∷ s) ∷ ps) same, ends, start, order)
 
 -- the leaves of two trees are those of the tree that forks into them
-forked : (p : List Bool) (rest kept : List (List Bool)) (q : List Bool) (changed : List (List Bool)) (left right : Tree) → rest ≡ map keep kept ++ map change (q ∷ changed) → p ∷ kept ≡ leaf_paths left → q ∷ changed ≡ leaf_paths right → AreLeafPaths ((false ∷ p) ∷ rest)
+forked : (p : List Bool) (rest kept : List (List Bool)) (q : List Bool) (changed : List (List Bool)) (left right : Tree) → rest ≡ map keep kept
+    ++ map change (q ∷ changed) → p ∷ kept ≡ leaf_paths left → q ∷ changed ≡ leaf_paths right → AreLeafPaths ((false ∷ p) ∷ rest)
 forked p rest kept q changed left right same left_paths right_paths = (
   Fork left right,
-  ap (λ (ps : List (List Bool)). (false ∷ p) ∷ ps) same ∙ ap (λ (ps : List (List Bool)). map keep ps ++ map change (q ∷ changed)) left_paths ∙ ap (λ (ps : List (List Bool)). map keep (leaf_paths left) ++ map change ps) right_paths,
+  ap (λ (ps : List (List Bool)). (false ∷ p) ∷ ps) same ∙ ap (λ (ps : List (List Bool)). map keep ps ++ map change (q ∷ changed)) left_paths
+      ∙ ap (λ (ps : List (List Bool)). map keep (leaf_paths left) ++ map change ps) right_paths,
 )
 
 grown : (n : ℕ) (p : List Bool) (rest : List (List Bool)) → length rest < n → all_kept p ≡ true → are_rest p rest ≡ true → AreLeafPaths (p ∷ rest)
@@ -78,7 +81,8 @@ rest-change : (q : List Bool) (changed : List (List Bool)) → are_rest (true �
 rest-change q [] = refl
 rest-change q (s ∷ changed) = ap (λ b. comes_next q s && b) (rest-change s changed)
 
-rest-joined : (p : List Bool) (kept : List (List Bool)) (q : List Bool) (changed : List (List Bool)) → are_rest p kept ≡ true → all_kept q ≡ true → are_rest q changed ≡ true
+rest-joined : (p : List Bool) (kept : List (List Bool)) (q : List Bool) (changed : List (List Bool)) → are_rest p kept ≡ true → all_kept q ≡ true
+    → are_rest q changed ≡ true
     → are_rest (false ∷ p) (map keep kept ++ map change (q ∷ changed)) ≡ true
 rest-joined p [] q changed ends start order = true-both _ _ (true-both _ _ ends start) (rest-change q changed ∙ order)
 rest-joined p (s ∷ kept) q changed first start order =
@@ -92,7 +96,8 @@ tree-ordered (Fork left right) =
     let (q, changed, right_paths, begins, second) = tree-ordered right in (
       keep p,
       map keep kept ++ map change (q ∷ changed),
-      ap (λ (ps : List (List Bool)). map keep ps ++ map change (leaf_paths right)) left_paths ∙ ap (λ (ps : List (List Bool)). map keep (p ∷ kept) ++ map change ps) right_paths,
+      ap (λ (ps : List (List Bool)). map keep ps ++ map change (leaf_paths right)) left_paths
+          ∙ ap (λ (ps : List (List Bool)). map keep (p ∷ kept) ++ map change ps) right_paths,
       start,
       rest-joined p kept q changed first begins second,
     )
@@ -110,7 +115,8 @@ one-agrees Tip word = ([], inl refl, tt)
 one-agrees (Fork kept changed) [] =
     let (path, there, agrees) = one-agrees kept [] in (keep path, in-left _ (map keep (leaf_paths kept)) _ (in-map keep path (leaf_paths kept) there), tt)
 one-agrees (Fork kept changed) (false ∷ word) =
-    let (path, there, agrees) = one-agrees kept word in (keep path, in-left _ (map keep (leaf_paths kept)) _ (in-map keep path (leaf_paths kept) there), (refl, agrees))
+    let (path, there, agrees) = one-agrees kept word in
+    (keep path, in-left _ (map keep (leaf_paths kept)) _ (in-map keep path (leaf_paths kept) there), (refl, agrees))
 one-agrees (Fork kept changed) (true ∷ word) =
     let (path, there, agrees) = one-agrees changed word in
     (change path, in-right _ (map keep (leaf_paths kept)) (map change (leaf_paths changed)) (in-map change path (leaf_paths changed) there), (refl, agrees))

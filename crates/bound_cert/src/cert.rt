@@ -1,8 +1,10 @@
+//! The proof tree as data: leaves, each with its path and the reason why nothing below it has to be looked
+//! at.
 use crate::path::Path;
 use derivation::Step;
 use foundation::Sequence;
 
-/// Why no correction along a leaf's path is lighter than it is said to be.
+/// Why no correction along a leaf's path weighs less than the tree says.
 #[derive(Debug, Drop)]
 pub enum LeafWhy {
     /// The path itself weighs enough.

@@ -1,3 +1,6 @@
+//! The check of a proof tree, leaf by leaf. It knows nothing of the search, so that the tree may come from
+//! anybody. In contracts, `IfBad` speaks of the leaf and the step that Bad names, and `IsFirstFault` says
+//! that they are the first at fault. `tree_case` has what the tree is about.
 ghost use Rattle.std.specs.Prelude.{◌≡◌, OnOk, length};
 ghost use Rattle.edit_model.specs.Rows.{IsRow};
 ghost use Rattle.edit_line.specs.Lines.{AreOver};
@@ -14,11 +17,11 @@ use edit_line::Line;
 use edit_model::{Row, Survey};
 use std::alloc::Global;
 
-/// Ok exactly where the tree is valid. Then each point at which the usable lines hold changes the record
-/// by the weight at least; without a weight, there is no such point. The lines are over the survey's fields.
-/// Bad comes with the first leaf whose path is not the next of a full tree or which is not valid, and, in the
-/// second case, with its first step that is not valid, if there is one; with leaf 0 where there are none. The
-/// time is in proportion to the size of the tree.
+/// Ok exactly where the tree is valid. Then each point at which the usable lines hold changes the record by
+/// the weight at least; without a weight, there is no such point. The lines are over the survey's fields.
+/// Bad comes with the first leaf whose path is not the next of a full tree or which is not valid. Of a leaf
+/// that is not valid it also names the first step that is not, if there is one. Where there are no leaves,
+/// Bad names leaf 0. The time is in proportion to the size of the tree.
 pub fn check_cert(
     alloc: Global,
     survey: &Survey,
@@ -48,7 +51,7 @@ pub fn check_cert(
     check_leaves(alloc, &task, cert.leaves.as_slice())
 }
 
-// Whether these are the leaves of a valid tree.
+// Ok exactly where these are the leaves of a valid tree, or Bad with the first that is at fault.
 fn check_leaves(alloc: Global, task: &Task, leaves: &[Leaf]) -> Result<(), CertFault>
     requires { IsTask task.now }
     ensures valid { OnOk result (IsValidTree (case task.now) leaves.now) }

@@ -1,3 +1,4 @@
+//! Why a proof tree is not accepted.
 use foundation::OutOfMemory;
 use std::{error, fmt};
 
@@ -18,6 +19,7 @@ impl fmt::Display for CertFault {
 
     ghost output = { λ fault. Some (text_of fault) };
 
+    // Writes what is printed of the fault, without a line feed.
     fn fmt<W: fmt::Write>(&self, f: &mut fmt::Formatter<W>) -> fmt::Result {
         match self {
             CertFault::Bad { leaf, step: None } => write!(
@@ -44,6 +46,7 @@ impl From<OutOfMemory> for CertFault {
 
     ghost from_gives = { λ _ fault. fault ≡ faults.OutOfMemory };
 
+    // Memory that is refused is one of the faults.
     fn from(_refused: OutOfMemory) -> Self {
         CertFault::OutOfMemory
     }

@@ -1,4 +1,6 @@
-//! Whether a leaf is valid.
+//! Whether one leaf of a proof tree stands where it has to, and whether its reason holds. In contracts,
+//! `SaysOf` and `SaysOfPlace` say that the verdict is right. They also say that it names the first step
+//! that is not valid, if there is one. `IsTask` says that a task's parts fit.
 ghost use Rattle.std.specs.Prelude.{◌≡◌, ◌<◌, ◌≤◌, ◌==◌, IfOk, IsSomeAnd, None, Some, drop, if◌then◌else◌, length, option_map, true};
 ghost use Rattle.std.specs.Bool.{Decides};
 ghost use Rattle.edit_line.specs.Shapes.{shape_of};
@@ -22,7 +24,8 @@ use edit_model::{FieldSet, Survey};
 use foundation::OutOfMemory;
 use std::alloc::Global;
 
-/// What is found of the leaf at this place.
+/// What is found of the leaf at this place: whether its path is the next of a full tree, and whether its
+/// reason holds. Where the path is not the next, no step is named.
 pub(crate) fn verdict_at(
     alloc: Global,
     task: &Task,
@@ -42,21 +45,23 @@ pub(crate) fn verdict_at(
     leaf_verdict(alloc, task, &leaf.path, &leaf.why)
 }
 
-// Whether the path stands right behind the one before, and, where it is the last, at the end.
+// Whether the path is right: it is the next behind the path before, and no longer than there are fields.
+// The last path ends the tree: it changes all its fields. `before` is None for the first leaf.
 fn is_right(survey: &Survey, before: Option<&[bool]>, path: &[bool], last: bool) -> bool
     ensures { result ≡ stands_right (option_map (λ b. b.now) before.entry) path.now last (length survey.now.fields) }
 {
     may_stand(before, path) && (may_end(path, last) && path.len() <= survey.fields().len())
 }
 
-// Whether the path may be the last one, if it is.
+// Whether the path may stand where it does, as far as the tree's end asks. The `last` path of a tree
+// changes all its fields; any other may stand.
 fn may_end(path: &[bool], last: bool) -> bool
     ensures { result ≡ (if last then all_changed path.now else true) }
 {
     if last { all_changed(path) } else { true }
 }
 
-// What is found of a leaf whose path is right.
+// What is found of a leaf whose path is right: whether its reason holds.
 fn leaf_verdict(
     alloc: Global,
     task: &Task,
@@ -75,7 +80,8 @@ fn leaf_verdict(
     }
 }
 
-// Whether the path weighs enough.
+// Whether the path weighs at least the weight that the tree is to show. Without a weight, where no
+// correction is said to exist, no path is heavy enough.
 fn is_heavy(task: &Task, path: &Path) -> bool
     requires { length path.now ≤ length task.now.survey.now.fields }
     ensures { Decides result (IsSomeAnd task.now.weight (λ w. w ≤ path_weight task.now.survey.now.fields path.now)) }
@@ -86,7 +92,8 @@ fn is_heavy(task: &Task, path: &Path) -> bool
     }
 }
 
-// Whether the steps prove a line that refutes the path.
+// Whether the steps are valid and their last proves a line that no point can meet that keeps what the path
+// keeps. Invalid names the first step that is not valid; none where all are, or there are none.
 fn line_verdict(
     alloc: Global,
     task: &Task,
@@ -114,7 +121,8 @@ fn line_verdict(
     }
 }
 
-// Whether the line is for all codes, and fails at the kept fields.
+// Whether the line is for all codes, and its linear part is false at the record's values at the kept
+// fields.
 fn line_refutes(task: &Task, kept: FieldSet, line: &Line) -> bool
     requires task { IsTask task.now }
     requires kept { HasKept task.now.row.now kept }
@@ -124,7 +132,8 @@ fn line_refutes(task: &Task, kept: FieldSet, line: &Line) -> bool
     line.is_full() && fails_at_kept(task.survey, task.row, kept, line)
 }
 
-// Whether the steps prove a box that refutes the path.
+// Whether the steps are valid and their last proves a box with all codes, so that all codes are forbidden.
+// Invalid names the first step that is not valid; none where all are, or there are none.
 fn box_verdict(
     alloc: Global,
     task: &Task,
@@ -152,14 +161,15 @@ fn box_verdict(
     }
 }
 
-// The place, if there are steps.
+// The place of the step at fault, or None where there are no steps: then the fault names place 0, which no
+// step has.
 fn step_at(steps: &[Step], place: u64) -> Option<u64>
     ensures { result ≡ (if length steps.now == 0 then None else Some place) }
 {
     if steps.is_empty() { None } else { Some(place) }
 }
 
-// What is found where no step is named.
+// The verdict on a leaf of which no step is at fault.
 fn verdict_of(valid: bool) -> Verdict
     ensures { result ≡ (if valid then Verdict.Valid else Verdict.Invalid None) }
 {

@@ -1,4 +1,6 @@
-//! The order of the leaves of a full tree.
+//! The order of the leaves of a full tree: by it a tree is seen to be full, leaf by leaf. A path has false
+//! for a kept field and true for a changed one. In a full tree each path is a leaf, or goes on both with
+//! its next field kept and with it changed.
 ghost use Rattle.std.specs.Prelude.{◌≡◌, ◌&&◌, ◌<◌, if◌then◌else◌, length, nat_le, option_map, true};
 ghost use Rattle.bound_cert.specs.Trees.{all_changed, all_kept};
 ghost use Rattle.bound_cert.specs.inner.Tasks.{path_before};
@@ -20,7 +22,9 @@ pub(crate) fn all_changed(path: &[bool]) -> bool
     path.iter().all(|changed| *changed)
 }
 
-/// Whether the second path comes right after the first in a full tree. No memory.
+/// Whether the second path comes right after the first in a full tree. They are alike up to a field that
+/// the first keeps and the second changes. Behind it the first changes all its fields, and the second keeps
+/// all its own. No memory.
 pub(crate) fn comes_next(first: &[bool], second: &[bool]) -> bool
     ensures { result ≡ comes_next first.now second.now }
 {
@@ -42,7 +46,8 @@ fn ends_and_begins(first: &[bool], second: &[bool]) -> bool
     all_changed(first) && all_kept(second)
 }
 
-/// Whether the path may stand behind the one before. No memory.
+/// Whether the path may stand right behind the path before. The first of all, for which `before` is None,
+/// keeps all its fields. No memory.
 pub(crate) fn may_stand(before: Option<&[bool]>, path: &[bool]) -> bool
     ensures { result ≡ may_stand (option_map (λ b. b.now) before.entry) path.now }
 {
@@ -52,7 +57,7 @@ pub(crate) fn may_stand(before: Option<&[bool]>, path: &[bool]) -> bool
     }
 }
 
-/// The path of the leaf before the one at this place. No memory.
+/// The path of the leaf before the one at this place, None for the first leaf. No memory.
 pub(crate) fn path_before(leaves: &[Leaf], place: usize) -> Option<&[bool]>
     requires { place < length leaves.now }
     ensures { option_map (λ b. b.now) result ≡ path_before leaves.now place }

@@ -1,3 +1,5 @@
+//! What an edit finds of a record, as a proof file says it: a change with its tree, no correction with its
+//! tree, or why the search ended before.
 use crate::cert::Cert;
 use crate::path::Path;
 use edit_line::Place;
@@ -5,8 +7,8 @@ use edit_line::Place;
 /// The first number that left the range in a search.
 #[derive(Clone, Copy, Debug, PartialEq, Eq)]
 pub enum Event {
-    /// A number of the combination of two lines, at these places in the system before the path's last field
-    /// was eliminated, from 0, at this place of the combination.
+    /// A number of the combination of two lines, at this place of it. The lines are named by their places,
+    /// from 0, in the system before the path's last field was eliminated.
     Step {
         first: u64,
         second: u64,

@@ -1,3 +1,4 @@
+//! Paths of the search, as values and as the letters of a proof file.
 ghost use Rattle.std.specs.Prelude.{◌≡◌, ◌≤◌, ◌++◌, OnOk, length, map};
 ghost use Rattle.std.specs.Io.{StartsWith};
 ghost use Rattle.edit_model.specs.Rows.{IsRow};
@@ -25,21 +26,22 @@ impl Model for Path {
 }
 
 impl Path {
-    /// The path of these letters. No memory.
+    /// The path of these letters: false for a kept field and true for a changed one, in path order. No
+    /// memory.
     pub fn new(letters: Vec<bool>) -> Path
         ensures { result ≡ letters.items }
     {
         Path { letters }
     }
 
-    /// The letters. No memory.
+    /// The letters: false for a kept field and true for a changed one, in path order. No memory.
     pub fn letters(&self) -> &[bool]
         ensures { result.now ≡ self.now }
     {
         self.letters.as_slice()
     }
 
-    /// The sum of the weights of the fields that it changes. No memory.
+    /// The sum of the weights of the fields that the path changes. No memory.
     pub fn weight(&self, survey: &Survey) -> u64
         requires { length self.now ≤ length survey.now.fields }
         ensures { result ≡ path_weight survey.now.fields self.now }
@@ -47,7 +49,8 @@ impl Path {
         path_weight(survey, self.letters())
     }
 
-    /// Whether it keeps a field at which the record has no value. No memory.
+    /// Whether the path keeps a field at which the record has no value, so that no correction is along it.
+    /// No memory.
     pub fn keeps_bad(&self, survey: &Survey, row: &Row) -> bool
         requires short { length self.now ≤ length survey.now.fields }
         requires row { IsRow survey.now.fields row.now }
@@ -56,7 +59,7 @@ impl Path {
         keeps_bad(survey, row, self.letters())
     }
 
-    /// The set of the fields that it keeps and at which the record has a value. No memory.
+    /// The set of the fields that the path keeps and at which the record has a value. No memory.
     pub fn kept_set(&self, survey: &Survey, row: &Row) -> FieldSet
         requires short { length self.now ≤ length survey.now.fields }
         requires row { IsRow survey.now.fields row.now }
@@ -66,8 +69,8 @@ impl Path {
         kept_set(survey, row, self.letters())
     }
 
-    /// Appends its letters, K for a kept field and C for a changed one, or `-` where it has none. Where memory is refused,
-    /// some may stand behind what stood before.
+    /// Appends the path's letters, K for a kept field and C for a changed one, or `-` where it has none.
+    /// Where memory is refused, some of them may stand behind what stood before.
     pub fn write(&self, text: &mut Vec<u8>) -> Result<(), OutOfMemory>
         ensures text { OnOk result (text.new.items ≡ text.old.items ++ path_text self.now) }
         ensures begins { StartsWith text.new.items text.old.items }
@@ -80,7 +83,7 @@ impl Path {
     }
 }
 
-// Appends the letters.
+// Appends the letters, one for each field of the path.
 fn write_letters(text: &mut Vec<u8>, letters: &[bool]) -> Result<(), OutOfMemory>
     ensures text { OnOk result (text.new.items ≡ text.old.items ++ map letter letters.now) }
     ensures begins { StartsWith text.new.items text.old.items }
@@ -91,7 +94,7 @@ fn write_letters(text: &mut Vec<u8>, letters: &[bool]) -> Result<(), OutOfMemory
     Ok(())
 }
 
-// The letter of a field that is kept, or changed.
+// The letter of a field: C where it is changed, K where it is kept.
 fn letter(changed: bool) -> u8
     ensures { result ≡ letter changed }
 {

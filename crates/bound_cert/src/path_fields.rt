@@ -1,4 +1,5 @@
-//! What a path says of a survey's fields and of a record.
+//! What a path says of a survey's fields and of a record. Places of a path are those of path order,
+//! numerical fields before categorical ones.
 ghost use Rattle.std.specs.Prelude.{◌≡◌, ◌<◌, ◌≤◌, ◌&&◌, if◌then◌else◌, length, not};
 ghost use Rattle.edit_model.specs.Rows.{IsRow, is_bad, value_of};
 ghost use Rattle.edit_model.specs.Words.{weight_at};
@@ -50,7 +51,7 @@ pub(crate) fn kept_set(survey: &Survey, row: &Row, path: &[bool]) -> FieldSet
     set
 }
 
-// The weight of the field at this place of the path order, if it is changed.
+// The weight of the field at this place of the path order, 0 where it is kept.
 fn changed_weight(survey: &Survey, place: usize, changed: bool) -> u64
     requires { place < length survey.now.fields }
     ensures weight { result ≡ (if changed then weight_at survey.now.fields (field_at survey.now.fields place) else 0) }
@@ -72,7 +73,7 @@ fn keeps_bad_at(survey: &Survey, row: &Row, place: usize, changed: bool) -> bool
     !changed && is_bad_at(survey, row, place)
 }
 
-// Whether it is kept, and has a value.
+// Whether the field at this place of the path order is kept, and has a value.
 fn keeps_value_at(survey: &Survey, row: &Row, place: usize, changed: bool) -> bool
     requires short { place < length survey.now.fields }
     requires row { IsRow survey.now.fields row.now }

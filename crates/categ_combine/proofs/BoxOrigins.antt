@@ -1,4 +1,6 @@
-use Rattle.std.proofs.Common.{◌≡◌, ◌⊎◌, inl, inr, ℕ, zero, suc, ◌+◌, ◌<◌, Bool, true, false, not, if◌then◌else◌, List, [], ◌∷◌, ◌++◌, Option, Some, None, IsSomeAnd, Result, Ok, Err, bit_and, length, slice_get, slice_index_or, slice_set, length-append, refl, sym, ap, ◌∙◌, subst, arith}
+use Rattle.std.proofs.Common.{◌≡◌, ◌⊎◌, inl, inr, ℕ, zero, suc, ◌+◌, ◌<◌, Bool, true, false, not, if◌then◌else◌, List, [], ◌∷◌, ◌++◌, Option, Some}
+use Rattle.std.proofs.Common.{None, IsSomeAnd, Result, Ok, Err, bit_and, length, slice_get, slice_index_or, slice_set, length-append, refl, sym, ap}
+use Rattle.std.proofs.Common.{◌∙◌, subst, arith}
 use Rattle.std.specs.List.{fold, list_any}
 use Rattle.std.proofs.lemmas.Bool.Decides.{Decides-eqb}
 use Rattle.foundation.specs.Results.{◌>>=◌, fault_as}
@@ -17,7 +19,8 @@ use Rattle.edit_line.proofs.Members.{all-in, in-all, in-either, in-flat_map-out,
 use Rattle.edit_line.proofs.OtherFields.{set-set, set-whole}
 use Rattle.edit_line.proofs.BoolLaws.{both_true}
 use Rattle.categ_combine.specs.BoxLists.{AreBoxesOver}
-use Rattle.categ_combine.specs.Covers.{IsElimination, covered_from, covers_from, first_cover, from_of, is_whole_at, joined, joined_for, meets_but, cover_parts, row_of, takes_part, unchanged_one, with_code_from}
+use Rattle.categ_combine.specs.Covers.{IsElimination, covered_from, covers_from, first_cover, from_of, is_whole_at, joined, joined_for, meets_but}
+use Rattle.categ_combine.specs.Covers.{cover_parts, row_of, takes_part, unchanged_one, with_code_from}
 use Rattle.categ_combine.specs.Each.{each_from}
 use Rattle.categ_combine.specs.FailingBoxes.{failing_from, line_fault, taken}
 use Rattle.categ_combine.specs.Fixing.{fixed_from, fixed_one}
@@ -38,7 +41,8 @@ some_at P o x e h = subst (λ o. IsSomeAnd o P) (sym e) h
 -- ---- elements with their places
 
 -- what each element with its place gives
-in-each : {X A : Type 0} (give : ℕ → X → List A) (whole : List X) (i : ℕ) (xs : List X) (a : A) → StandsAt whole i xs → IsIn a (each_from give i xs) → (j : ℕ) × (x : X) × (slice_get whole j ≡ Some x) × IsIn a (give j x)
+in-each : {X A : Type 0} (give : ℕ → X → List A) (whole : List X) (i : ℕ) (xs : List X) (a : A) → StandsAt whole i xs → IsIn a (each_from give i xs)
+    → (j : ℕ) × (x : X) × (slice_get whole j ≡ Some x) × IsIn a (give j x)
 in-each give whole i [] a at there = absurd there
 in-each give whole i (x ∷ xs) a at there = elim (in-either a (give i x) (each_from give (suc i) xs) there) [
   | inl here ↦ (i, x, first-at whole i x xs at, here)
@@ -51,22 +55,29 @@ module _ (lines : List Derived) (row : List Value) where
   abbrev FromLine : BoxFrom → Type 0
   FromLine b = ComesFromLine lines row b.code_box b.origin
 
-  from-failing : (i : ℕ) (rest : List Derived) (kept boxes : List BoxFrom) → StandsAt lines i rest → ((b : BoxFrom) → IsIn b kept → FromLine b) → failing_from i rest row kept ≡ Ok boxes → (b : BoxFrom) → IsIn b boxes → FromLine b
+  from-failing : (i : ℕ) (rest : List Derived) (kept boxes : List BoxFrom) → StandsAt lines i rest → ((b : BoxFrom) → IsIn b kept → FromLine b)
+      → failing_from i rest row kept ≡ Ok boxes → (b : BoxFrom) → IsIn b boxes → FromLine b
   from-failing i [] kept boxes at before told b there = before b (subst (λ (bs : List BoxFrom). IsIn b bs) (sym (cc)) there)
   from-failing i (d ∷ rest) kept boxes at before told b there =
-      by (fails_at d.line row) refl told (λ fails more h. from-failing (suc i) rest (taken kept i d.line fails) boxes (later-at lines i d rest at) more h b there)
+      by (fails_at d.line row) refl told (λ fails more h. from-failing (suc i) rest (taken kept i d.line fails) boxes (later-at lines i d rest at) more h b
+      there)
     where
       more : (fails : Bool) → fails_at d.line row ≡ Ok fails → (e : BoxFrom) → IsIn e (taken kept i d.line fails) → FromLine e
       more false is e in_taken = before e in_taken
-      more true is e in_taken = elim (in-taken (list_any (λ (b : BoxFrom). are_subsets d.line.sets b.code_box.sets) kept) (λ (b : BoxFrom). not (are_subsets b.code_box.sets d.line.sets)) e (from_of d.line.shape d.line.sets (Failing i)) kept in_taken) [
-        | inl old ↦ before e old
-        | inr same ↦
-            subst (λ (b : BoxFrom). FromLine b) (sym same)
-            (some_at (λ (x : Derived). (fails_at x.line row ≡ Ok true) × (box_of d.line.shape d.line.sets ≡ box_of x.line.shape x.line.sets)) (slice_get lines i) d (first-at lines i d rest at) (is, refl))
-      ]
+      more true is e in_taken =
+          elim (in-taken (list_any (λ (b : BoxFrom). are_subsets d.line.sets b.code_box.sets) kept)
+          (λ (b : BoxFrom). not (are_subsets b.code_box.sets d.line.sets)) e (from_of d.line.shape d.line.sets (Failing i)) kept in_taken) [
+            | inl old ↦ before e old
+            | inr same ↦
+                subst (λ (b : BoxFrom). FromLine b) (sym same)
+                (some_at (λ (x : Derived). (fails_at x.line row ≡ Ok true) × (box_of d.line.shape d.line.sets ≡ box_of x.line.shape x.line.sets))
+                (slice_get lines i) d (first-at lines i d rest at) (is, refl))
+          ]
 
-      by : (r : Result Bool ℕ) → fails_at d.line row ≡ r → (fault_as (line_fault i) r >>= (λ fails. failing_from (suc i) rest row (taken kept i d.line fails))) ≡ Ok boxes
-          → ((fails : Bool) → ((e : BoxFrom) → IsIn e (taken kept i d.line fails) → FromLine e) → failing_from (suc i) rest row (taken kept i d.line fails) ≡ Ok boxes → FromLine b) → FromLine b
+      by : (r : Result Bool ℕ) → fails_at d.line row ≡ r
+          → (fault_as (line_fault i) r >>= (λ fails. failing_from (suc i) rest row (taken kept i d.line fails))) ≡ Ok boxes
+          → ((fails : Bool) → ((e : BoxFrom) → IsIn e (taken kept i d.line fails) → FromLine e)
+          → failing_from (suc i) rest row (taken kept i d.line fails) ≡ Ok boxes → FromLine b) → FromLine b
       by (Ok fails) is h next = next fails (more fails is) h
       by (Err f) is h next = absurd (cc)
 
@@ -85,8 +96,11 @@ module _ (shape : List Domain) (boxes : List BoxFrom) (f : ℕ) (over : AreBoxes
   over-at i x at = in-all (λ (b : BoxFrom). b.code_box.shape ≡ shape) x boxes over (in-get x boxes i at)
 
   -- the box at a place, as it was
-  unchanged-at : (i : ℕ) (x : BoxFrom) (box : BoxParts) → slice_get boxes i ≡ Some x → is_whole_at (place_of shape f) (whole_of shape f) x.code_box.sets ≡ true → box ≡ x.code_box → IsUnchanged shape boxes f i box
-  unchanged-at i x box at is same = some_at (λ (b : BoxFrom). (is_whole_at (place_of shape f) (whole_of shape f) b.code_box.sets ≡ true) × (box ≡ b.code_box)) (slice_get boxes i) x at (is, same)
+  unchanged-at : (i : ℕ) (x : BoxFrom) (box : BoxParts) → slice_get boxes i ≡ Some x
+      → is_whole_at (place_of shape f) (whole_of shape f) x.code_box.sets ≡ true → box ≡ x.code_box → IsUnchanged shape boxes f i box
+  unchanged-at i x box at is same =
+      some_at (λ (b : BoxFrom). (is_whole_at (place_of shape f) (whole_of shape f) b.code_box.sets ≡ true) × (box ≡ b.code_box)) (slice_get boxes i) x at
+      (is, same)
 
   -- ---- fixed boxes
 
@@ -97,16 +111,21 @@ module _ (shape : List Domain) (boxes : List BoxFrom) (f : ℕ) (over : AreBoxes
   from-fixed code i x b at made = by (has_code (slice_index_or x.code_box.sets place 0) code) refl made
     where
       by : (h : Bool) → has_code (slice_index_or x.code_box.sets (place_of shape f) 0) code ≡ h
-          → IsIn b (if h then from_of x.code_box.shape (slice_set x.code_box.sets (place_of shape f) (whole_of shape f)) (if is_whole_at (place_of shape f) (whole_of shape f) x.code_box.sets then Unchanged i else Fixed i) ∷ [] else []) → FromFix code b
+          → IsIn b (if h then from_of x.code_box.shape (slice_set x.code_box.sets (place_of shape f) (whole_of shape f))
+          (if is_whole_at (place_of shape f) (whole_of shape f) x.code_box.sets then Unchanged i else Fixed i) ∷ [] else []) → FromFix code b
       by false e none = absurd none
       by true e (inr none) = absurd none
       by true e (inl same) = subst (λ (y : BoxFrom). FromFix code y) (sym same) (one (is_whole_at place whole x.code_box.sets) refl)
         where
           one : (t : Bool) → is_whole_at (place_of shape f) (whole_of shape f) x.code_box.sets ≡ t
-              → ComesFromFix shape boxes f code (box_of x.code_box.shape (slice_set x.code_box.sets (place_of shape f) (whole_of shape f))) (if t then Unchanged i else Fixed i)
-          one true is = unchanged-at i x _ at is (ap (λ (s : List ℕ). box_of x.code_box.shape s) (set-whole place whole x.code_box.sets ((Decides-eqb _ _).0 is)))
+              → ComesFromFix shape boxes f code (box_of x.code_box.shape (slice_set x.code_box.sets (place_of shape f) (whole_of shape f)))
+              (if t then Unchanged i else Fixed i)
+          one true is = unchanged-at i x _ at is (ap (λ (s : List ℕ). box_of x.code_box.shape s)
+              (set-whole place whole x.code_box.sets ((Decides-eqb _ _).0 is)))
           one false is =
-              some_at (λ (y : BoxFrom). (has_code (slice_index_or y.code_box.sets (place_of shape f) 0) code ≡ true) × (box_of x.code_box.shape (slice_set x.code_box.sets (place_of shape f) (whole_of shape f)) ≡ whole_box shape f y.code_box.sets)) (slice_get boxes i) x at
+              some_at (λ (y : BoxFrom). (has_code (slice_index_or y.code_box.sets (place_of shape f) 0) code ≡ true)
+              × (box_of x.code_box.shape (slice_set x.code_box.sets (place_of shape f) (whole_of shape f)) ≡ whole_box shape f y.code_box.sets))
+              (slice_get boxes i) x at
               (e, ap (λ (s : List Domain). box_of s (slice_set x.code_box.sets (place_of shape f) (whole_of shape f))) (over-at i x at))
 
   -- each box that a code leaves comes from one that has the code
@@ -126,18 +145,24 @@ module _ (shape : List Domain) (boxes : List BoxFrom) (f : ℕ) (over : AreBoxes
   meets-set (suc k) w (s ∷ x) (t ∷ y) = ap (λ (ss : List ℕ). bit_and s t ∷ ss) (meets-set k w x y)
 
   -- with one part more
-  common-more : (code : ℕ) (parts : List ℕ) (i : ℕ) (x : BoxFrom) (sets common : List ℕ) → slice_get boxes i ≡ Some x → has_code (slice_index_or x.code_box.sets (place_of shape f) 0) (code + length parts) ≡ true
-      → HaveInCommon boxes (place_of shape f) code parts sets common → HaveInCommon boxes (place_of shape f) code (parts ++ i ∷ []) sets (in_both common x.code_box.sets)
+  common-more : (code : ℕ) (parts : List ℕ) (i : ℕ) (x : BoxFrom) (sets common : List ℕ) → slice_get boxes i ≡ Some x
+      → has_code (slice_index_or x.code_box.sets (place_of shape f) 0) (code + length parts) ≡ true
+      → HaveInCommon boxes (place_of shape f) code parts sets common
+      → HaveInCommon boxes (place_of shape f) code (parts ++ i ∷ []) sets (in_both common x.code_box.sets)
   common-more code [] i x sets common at has same =
-      some_at (λ (b : BoxFrom). (has_code (slice_index_or b.code_box.sets (place_of shape f) 0) code ≡ true) × (in_both common x.code_box.sets ≡ in_both sets b.code_box.sets)) (slice_get boxes i) x at
+      some_at (λ (b : BoxFrom). (has_code (slice_index_or b.code_box.sets (place_of shape f) 0) code ≡ true)
+      × (in_both common x.code_box.sets ≡ in_both sets b.code_box.sets)) (slice_get boxes i) x at
       (ap (λ n. has_code (slice_index_or x.code_box.sets (place_of shape f) 0) n) (omega arith) ∙ has, ap (λ (s : List ℕ). in_both s x.code_box.sets) same)
   common-more code (a ∷ parts) i x sets common at has are =
-      by (slice_get boxes a) are (λ b told. common-more (suc code) parts i x (in_both sets b.code_box.sets) common at (ap (λ n. has_code (slice_index_or x.code_box.sets place 0) n) (omega arith) ∙ has) told)
+      by (slice_get boxes a) are (λ b told. common-more (suc code) parts i x (in_both sets b.code_box.sets) common at
+      (ap (λ n. has_code (slice_index_or x.code_box.sets place 0) n) (omega arith) ∙ has) told)
     where
-      by : (o : Option BoxFrom) → IsSomeAnd o (λ (b : BoxFrom). (has_code (slice_index_or b.code_box.sets (place_of shape f) 0) code ≡ true) × HaveInCommon boxes (place_of shape f) (suc code) parts (in_both sets b.code_box.sets) common)
+      by : (o : Option BoxFrom) → IsSomeAnd o (λ (b : BoxFrom). (has_code (slice_index_or b.code_box.sets (place_of shape f) 0) code ≡ true)
+          × HaveInCommon boxes (place_of shape f) (suc code) parts (in_both sets b.code_box.sets) common)
           → ((b : BoxFrom) → HaveInCommon boxes (place_of shape f) (suc code) parts (in_both sets b.code_box.sets) common
           → HaveInCommon boxes (place_of shape f) (suc code) (parts ++ i ∷ []) (in_both sets b.code_box.sets) (in_both common x.code_box.sets))
-          → IsSomeAnd o (λ (b : BoxFrom). (has_code (slice_index_or b.code_box.sets (place_of shape f) 0) code ≡ true) × HaveInCommon boxes (place_of shape f) (suc code) (parts ++ i ∷ []) (in_both sets b.code_box.sets) (in_both common x.code_box.sets))
+          → IsSomeAnd o (λ (b : BoxFrom). (has_code (slice_index_or b.code_box.sets (place_of shape f) 0) code ≡ true)
+          × HaveInCommon boxes (place_of shape f) (suc code) (parts ++ i ∷ []) (in_both sets b.code_box.sets) (in_both common x.code_box.sets))
       by None none rest = absurd none
       by (Some b) told rest = (told.0, rest b told.1)
 
@@ -169,7 +194,8 @@ module _ (shape : List Domain) (boxes : List BoxFrom) (f : ℕ) (over : AreBoxes
           parts_are = ap (λ o. cover_parts o) cover.origin_is
 
           some : (t : Bool) → none_is_empty (meets_but (place_of shape f) (whole_of shape f) q.code_box.sets x.code_box.sets) ≡ t
-              → IsIn b (if t then from_of q.code_box.shape (meets_but (place_of shape f) (whole_of shape f) q.code_box.sets x.code_box.sets) (Cover (cover_parts q.origin ++ i ∷ [])) ∷ [] else []) → IsPart (suc many) b
+              → IsIn b (if t then from_of q.code_box.shape (meets_but (place_of shape f) (whole_of shape f) q.code_box.sets x.code_box.sets)
+              (Cover (cover_parts q.origin ++ i ∷ [])) ∷ [] else []) → IsPart (suc many) b
           some false codes none = absurd none
           some true codes (inr none) = absurd none
           some true codes (inl same) = subst (λ (y : BoxFrom). IsPart (suc many) y) (sym same) (record {
@@ -178,19 +204,23 @@ module _ (shape : List Domain) (boxes : List BoxFrom) (f : ℕ) (over : AreBoxes
             many_are = length-append cover.parts (i ∷ []) ∙ omega (arith, cover.many_are);
             shape_is = cover.shape_is;
             common = in_both cover.common x.code_box.sets;
-            common_is = common-more 0 cover.parts i x (whole_sets shape) cover.common at (ap (λ n. has_code (slice_index_or x.code_box.sets (place_of shape f) 0) n) counted ∙ (both_true _ _ e).1) cover.common_is;
-            sets = sym (meets-set (place_of shape f) (whole_of shape f) cover.common x.code_box.sets) ∙ ap (λ (s : List ℕ). slice_set (in_both s x.code_box.sets) (place_of shape f) (whole_of shape f)) cover.sets;
+            common_is = common-more 0 cover.parts i x (whole_sets shape) cover.common at
+                (ap (λ n. has_code (slice_index_or x.code_box.sets (place_of shape f) 0) n) counted ∙ (both_true _ _ e).1) cover.common_is;
+            sets = sym (meets-set (place_of shape f) (whole_of shape f) cover.common x.code_box.sets)
+                ∙ ap (λ (s : List ℕ). slice_set (in_both s x.code_box.sets) (place_of shape f) (whole_of shape f)) cover.sets;
             full = λ more. codes;
           })
 
   folded-parts : (code left : ℕ) (found : List BoxFrom) → ((b : BoxFrom) → IsIn b found → IsPart code b)
-      → (b : BoxFrom) → IsIn b (fold (λ found code. with_code_from (place_of shape f) (whole_of shape f) boxes found code) found (codes_up code left)) → IsPart (code + left) b
+      → (b : BoxFrom) → IsIn b (fold (λ found code. with_code_from (place_of shape f) (whole_of shape f) boxes found code) found (codes_up code left))
+      → IsPart (code + left) b
   folded-parts code zero found are b there = subst (λ n. IsPart n b) (omega arith) (are b there)
   folded-parts code (suc left) found are b there =
       subst (λ n. IsPart n b) (omega arith) (folded-parts (suc code) left (with_code_from place whole boxes found code) next b there)
     where
       next : (b : BoxFrom) → IsIn b (with_code_from (place_of shape f) (whole_of shape f) boxes found code) → IsPart (suc code) b
-      next b there = let (q, was, made) = in-flat_map-out (row_of place whole code boxes) b found (in-reduce_from b _ there) in next-part code q b (are q was) made
+      next b there = let (q, was, made) = in-flat_map-out (row_of place whole code boxes) b found (in-reduce_from b _ there) in next-part code q b
+          (are q was) made
 
   abbrev FromCover : BoxFrom → Type 0
   FromCover b = ComesFromCover shape boxes f b.code_box b.origin
@@ -198,7 +228,8 @@ module _ (shape : List Domain) (boxes : List BoxFrom) (f : ℕ) (over : AreBoxes
   from-unchanged : (i : ℕ) (x b : BoxFrom) → slice_get boxes i ≡ Some x → IsIn b (unchanged_one (place_of shape f) (whole_of shape f) i x) → FromCover b
   from-unchanged i x b at made = by (is_whole_at place whole x.code_box.sets) refl made
     where
-      by : (t : Bool) → is_whole_at (place_of shape f) (whole_of shape f) x.code_box.sets ≡ t → IsIn b (if t then from_of x.code_box.shape x.code_box.sets (Unchanged i) ∷ [] else []) → FromCover b
+      by : (t : Bool) → is_whole_at (place_of shape f) (whole_of shape f) x.code_box.sets ≡ t
+          → IsIn b (if t then from_of x.code_box.shape x.code_box.sets (Unchanged i) ∷ [] else []) → FromCover b
       by true is (inl same) = subst (λ (y : BoxFrom). FromCover y) (sym same) (unchanged-at i x x.code_box at is refl)
       by true is (inr none) = absurd none
       by false is none = absurd none
@@ -214,7 +245,9 @@ module _ (shape : List Domain) (boxes : List BoxFrom) (f : ℕ) (over : AreBoxes
 
   -- each box that elimination leaves comes from one that is whole at the field, or from one for each code
   pub covered-comes : TakesCodes shape f → AllCome (ComesFromCover shape boxes f) (covered_from shape boxes f)
-  covered-comes takes = all-in FromCover (covered_from shape boxes f) (λ b there. at b (in-either b (each_from (unchanged_one place whole) 0 boxes) (covers_from shape boxes f (codes_of shape f)) (in-reduce_from b _ there)))
+  covered-comes takes =
+      all-in FromCover (covered_from shape boxes f) (λ b there. at b
+      (in-either b (each_from (unchanged_one place whole) 0 boxes) (covers_from shape boxes f (codes_of shape f)) (in-reduce_from b _ there)))
     where
       first : (b : BoxFrom) → IsIn b (first_cover shape ∷ []) → IsPart 0 b
       first b (inl same) = subst (λ (y : BoxFrom). IsPart 0 y) (sym same) (record {
@@ -229,7 +262,8 @@ module _ (shape : List Domain) (boxes : List BoxFrom) (f : ℕ) (over : AreBoxes
       })
       first b (inr none) = absurd none
 
-      at : (b : BoxFrom) → IsIn b (each_from (unchanged_one (place_of shape f) (whole_of shape f)) 0 boxes) ⊎ IsIn b (covers_from shape boxes f (codes_of shape f)) → FromCover b
+      at : (b : BoxFrom) → IsIn b (each_from (unchanged_one (place_of shape f) (whole_of shape f)) 0 boxes)
+          ⊎ IsIn b (covers_from shape boxes f (codes_of shape f)) → FromCover b
       at b (inl old) = let (i, x, found, made) = in-each (unchanged_one place whole) boxes 0 boxes b (whole-at boxes) old in from-unchanged i x b found made
       at b (inr cover) = from-cover takes b (folded-parts 0 (size_of shape f) (first_cover shape ∷ []) first b cover)
 
@@ -237,5 +271,6 @@ module _ (shape : List Domain) (boxes : List BoxFrom) (f : ℕ) (over : AreBoxes
 pub done-comes : (own shape : List Domain) (boxes : List BoxFrom) (f : ℕ) → own ≡ shape → AreBoxesOver shape boxes → TakesCodes shape f → (told : Covered)
     → IsDone told (IsElimination own boxes f) → IsDone told (λ left pairs. AllCome (ComesFromCover shape boxes f) left)
 done-comes own shape boxes f same over takes (Done left pairs) are =
-    subst (λ (bs : List BoxFrom). AllCome (ComesFromCover shape boxes f) bs) (sym (are.0 ∙ ap (λ s. covered_from s boxes f) same)) (covered-comes shape boxes f over takes)
+    subst (λ (bs : List BoxFrom). AllCome (ComesFromCover shape boxes f) bs) (sym (are.0 ∙ ap (λ s. covered_from s boxes f) same))
+    (covered-comes shape boxes f over takes)
 done-comes own shape boxes f same over takes Passed are = tt

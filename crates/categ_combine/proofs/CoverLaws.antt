@@ -22,7 +22,8 @@ opposite : (b : Bool) → not b ≡ true → b ≡ false
 opposite true h = absurd (cc)
 opposite false h = refl
 
-module _ (shape : List Domain) (boxes : List (List ℕ)) (f : ℕ) (p : Point) (sets : HaveSets shape boxes) (takes : TakesCodes shape f) (held : HasCodes 0 shape p) where
+module _ (shape : List Domain) (boxes : List (List ℕ)) (f : ℕ) (p : Point) (sets : HaveSets shape boxes) (takes : TakesCodes shape f)
+    (held : HasCodes 0 shape p) where
   within : place_of shape f < length (codes_at shape p)
   within = omega (arith, place_of-below shape f takes, length-codes_at shape p)
 
@@ -33,23 +34,28 @@ module _ (shape : List Domain) (boxes : List (List ℕ)) (f : ℕ) (p : Point) (
   in-covered : list_any (λ b. are_codes_in b (codes_at shape p)) (covered shape boxes f)
       ≡ list_all (λ c. list_any (λ b. are_codes_in b (slice_set (codes_at shape p) (place_of shape f) c)) boxes) (codes_of shape f)
   in-covered =
-      any-covered (place_of shape f) (whole_of shape f) (codes_at shape p) boxes within (whole_of-code shape p f takes held) same (whole_sets shape) (codes_of shape f) (
+      any-covered (place_of shape f) (whole_of shape f) (codes_at shape p) boxes within (whole_of-code shape p f takes held) same (whole_sets shape)
+      (codes_of shape f) (
       omega (arith, length-wholes 0 shape, length-codes_at shape p)
       ) refl (wholes-inside shape p held) (whole_of-all shape f)
 
   -- where the codes avoid what elimination leaves, they avoid the boxes with some code at the field
   pub covered-lifts : Avoids shape (covered shape boxes f) p → (code : ℕ) × (code < size_of shape f) × Avoids shape boxes (with_code_at p f code)
   covered-lifts avoids =
-      let (code, below, fails) = some-code (λ c. list_any (λ b. are_codes_in b (slice_set (codes_at shape p) (place_of shape f) c)) boxes) 0 (size_of shape f) (sym in-covered ∙ opposite _ avoids) in
+      let (code, below, fails) = some-code (λ c. list_any (λ b. are_codes_in b (slice_set (codes_at shape p) (place_of shape f) c)) boxes) 0
+      (size_of shape f) (sym in-covered ∙ opposite _ avoids) in
       (code, omega (arith, below), ap (λ cs. avoid boxes cs) (codes_at-with shape p f code) ∙ ap not fails)
 
   -- and the other way round
   pub covered-holds : (code : ℕ) → code < size_of shape f → Avoids shape boxes (with_code_at p f code) → Avoids shape (covered shape boxes f) p
   covered-holds code below avoids =
-      let fails : list_any (λ b. are_codes_in b (slice_set (codes_at shape p) (place_of shape f) code)) boxes ≡ false = opposite _ (ap (λ cs. avoid boxes cs) (sym (codes_at-with shape p f code)) ∙ avoids) in
-      ap not (in-covered ∙ not_all (λ c. list_any (λ b. are_codes_in b (slice_set (codes_at shape p) (place_of shape f) c)) boxes) 0 (size_of shape f) code (omega arith) (omega (arith, below)) fails)
+      let fails : list_any (λ b. are_codes_in b (slice_set (codes_at shape p) (place_of shape f) code)) boxes
+      ≡ false = opposite _ (ap (λ cs. avoid boxes cs) (sym (codes_at-with shape p f code)) ∙ avoids) in
+      ap not (in-covered ∙ not_all (λ c. list_any (λ b. are_codes_in b (slice_set (codes_at shape p) (place_of shape f) c)) boxes) 0 (size_of shape f) code
+      (omega arith) (omega (arith, below)) fails)
 
   -- the codes avoid the boxes that a code leaves exactly where they avoid the boxes with it
   pub fixed-avoids : (code : ℕ) → avoid (fixed shape boxes f code) (codes_at shape p) ≡ avoid boxes (codes_at shape (with_code_at p f code))
   fixed-avoids code =
-      ap not (any-fixed (place_of shape f) (whole_of shape f) (codes_at shape p) boxes within (whole_of-code shape p f takes held) same code) ∙ ap (λ cs. avoid boxes cs) (sym (codes_at-with shape p f code))
+      ap not (any-fixed (place_of shape f) (whole_of shape f) (codes_at shape p) boxes within (whole_of-code shape p f takes held) same code)
+      ∙ ap (λ cs. avoid boxes cs) (sym (codes_at-with shape p f code))

@@ -39,25 +39,42 @@ module _ (shape : List Domain) (place whole : ℕ) (boxes : List BoxFrom) (size 
       next : suc code ≡ code + 1
       next = omega arith
 
-  pub pairs-turn : (code : ℕ) (covers : List BoxFrom) → code < size → pairs_of code covers ≡ more_for code covers + pairs_of (code + 1) (with_code_from place whole boxes covers code)
+  pub pairs-turn : (code : ℕ) (covers : List BoxFrom) → code < size
+      → pairs_of code covers ≡ more_for code covers + pairs_of (code + 1) (with_code_from place whole boxes covers code)
   pairs-turn code covers below =
       ap (λ cs. code_pairs place whole (sets_of boxes) (sets_of covers) cs) (codes_left code below)
-      ∙ ap (λ n. n * length (filter (takes_part place whole code) (sets_of boxes)) + code_pairs place whole (sets_of boxes) (with_code place whole (sets_of boxes) (sets_of covers) code) (codes_up (code + 1) (size - (code + 1)))) (length-map covers (λ (b : BoxFrom). b.code_box.sets))
-      ∙ ap (λ n. length covers * n + code_pairs place whole (sets_of boxes) (with_code place whole (sets_of boxes) (sets_of covers) code) (codes_up (code + 1) (size - (code + 1)))) (sym (length-parts place whole code boxes))
-      ∙ ap (λ bs. more_for code covers + code_pairs place whole (sets_of boxes) bs (codes_up (code + 1) (size - (code + 1)))) (sym (sets-with_code place whole boxes covers code))
+      ∙ ap (λ n. n * length (filter (takes_part place whole code) (sets_of boxes))
+      + code_pairs place whole (sets_of boxes) (with_code place whole (sets_of boxes) (sets_of covers) code) (codes_up (code + 1) (size - (code + 1))))
+      (length-map covers (λ (b : BoxFrom). b.code_box.sets))
+      ∙ ap (λ n. length covers * n + code_pairs place whole (sets_of boxes) (with_code place whole (sets_of boxes) (sets_of covers) code)
+      (codes_up (code + 1) (size - (code + 1)))) (sym (length-parts place whole code boxes))
+      ∙ ap (λ bs. more_for code covers + code_pairs place whole (sets_of boxes) bs (codes_up (code + 1) (size - (code + 1))))
+      (sym (sets-with_code place whole boxes covers code))
 
-  pub so_far-next : (code : ℕ) (covers next : List BoxFrom) (pairs more : ℕ) → code < size → IsSoFar code covers pairs → next ≡ with_code_from place whole boxes covers code → AreBoxesOver shape next → more ≡ more_for code covers → more ≤ most - pairs
+  pub so_far-next : (code : ℕ) (covers next : List BoxFrom) (pairs more : ℕ) → code < size → IsSoFar code covers pairs
+      → next ≡ with_code_from place whole boxes covers code → AreBoxesOver shape next → more ≡ more_for code covers → more ≤ most - pairs
       → IsSoFar (code + 1) next (pairs + more)
   so_far-next code covers next pairs more below before is over counted fits = record {
     over = over;
-    covers_are = ap (λ bs. rest_of (code + 1) bs) is ∙ ap (λ cs. fold (λ covers code. with_code_from place whole boxes covers code) covers cs) (sym (codes_left code below)) ∙ before.covers_are;
+    covers_are =
+        ap (λ bs. rest_of (code + 1) bs) is ∙ ap (λ cs. fold (λ covers code. with_code_from place whole boxes covers code) covers cs)
+        (sym (codes_left code below)) ∙ before.covers_are;
     pairs_are = omega (arith, before.pairs_are, pairs-turn code covers below, counted, ap (λ bs. pairs_of (code + 1) bs) is);
     few = omega (arith, before.few, fits);
   }
 
-  pub so_far-passed : (code : ℕ) (covers : List BoxFrom) (pairs more : ℕ) → code < size → IsSoFar code covers pairs → more ≡ more_for code covers → most - pairs < more → most < code_pairs place whole (sets_of boxes) (whole_sets shape ∷ []) (codes_up 0 size)
+  pub so_far-passed : (code : ℕ) (covers : List BoxFrom) (pairs more : ℕ) → code < size → IsSoFar code covers pairs → more ≡ more_for code covers
+      → most - pairs < more → most < code_pairs place whole (sets_of boxes) (whole_sets shape ∷ []) (codes_up 0 size)
   so_far-passed code covers pairs more below is counted past =
-      omega (arith, is.pairs_are, is.few, pairs-turn code covers below, counted, past, ap (λ n. code_pairs place whole (sets_of boxes) (whole_sets shape ∷ []) (codes_up 0 n)) whole_size)
+      omega (
+        arith,
+        is.pairs_are,
+        is.few,
+        pairs-turn code covers below,
+        counted,
+        past,
+        ap (λ n. code_pairs place whole (sets_of boxes) (whole_sets shape ∷ []) (codes_up 0 n)) whole_size,
+      )
     where
       whole_size : size - 0 ≡ size
       whole_size = omega arith

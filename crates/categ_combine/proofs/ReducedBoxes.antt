@@ -34,20 +34,24 @@ module _ (t : List ℕ → Bool) (grows : IsMonotone t) where
       left : List (List ℕ)
       left = filter (λ b. not (are_subsets b box)) kept
 
-      by : (inside : Bool) → list_any (λ b. are_subsets box b) kept ≡ inside → (passes : Bool) → t box ≡ passes → list_any t (if inside then kept else left ++ box ∷ []) ≡ (list_any t kept || passes)
-      by true e true f = let (b, there, lies) = in-any (λ b. are_subsets box b) kept e in any_in t b kept there (grows box b lies f) ∙ sym (or_true (list_any t kept))
+      by : (inside : Bool) → list_any (λ b. are_subsets box b) kept ≡ inside → (passes : Bool) → t box ≡ passes
+          → list_any t (if inside then kept else left ++ box ∷ []) ≡ (list_any t kept || passes)
+      by true e true f = let (b, there, lies) = in-any (λ b. are_subsets box b) kept e in any_in t b kept there (grows box b lies f)
+          ∙ sym (or_true (list_any t kept))
         where
           or_true : (b : Bool) → (b || true) ≡ true
           or_true true = refl
           or_true false = refl
       by true e false f = sym (or_none (list_any t kept))
-      by false e true f = list_any-append t left (box ∷ []) ∙ ap (λ b. list_any t left || (b || false)) f ∙ or_true (list_any t left) ∙ sym (or_true (list_any t kept))
+      by false e true f =
+          list_any-append t left (box ∷ []) ∙ ap (λ b. list_any t left || (b || false)) f ∙ or_true (list_any t left) ∙ sym (or_true (list_any t kept))
         where
           or_true : (b : Bool) → (b || true) ≡ true
           or_true true = refl
           or_true false = refl
       by false e false f =
-          list_any-append t left (box ∷ []) ∙ ap (λ b. list_any t left || (b || false)) f ∙ ap (λ b. b || false) (any-filter_same t (λ b. not (are_subsets b box)) true stays kept)
+          list_any-append t left (box ∷ []) ∙ ap (λ b. list_any t left || (b || false)) f
+          ∙ ap (λ b. b || false) (any-filter_same t (λ b. not (are_subsets b box)) true stays kept)
         where
           stays : (b : List ℕ) → t b ≡ true → not (are_subsets b box) ≡ true
           stays b passes = by_test (are_subsets b box) refl
@@ -68,12 +72,14 @@ module _ (t : List ℕ → Bool) (grows : IsMonotone t) where
 -- ---- each reduced box is one of the boxes
 
 pub in-reduce : (box : List ℕ) (boxes : List (List ℕ)) → IsIn box (reduce_boxes boxes) → IsIn box boxes
-in-reduce box boxes h = in-reduced with_box (λ x new kept. in-taken (list_any (λ b. are_subsets new b) kept) (λ b. not (are_subsets b new)) x new kept) box boxes h
+in-reduce box boxes h = in-reduced with_box (λ x new kept. in-taken (list_any (λ b. are_subsets new b) kept) (λ b. not (are_subsets b new)) x new kept) box
+    boxes h
 
 -- the same of boxes with their origins
 pub in-reduce_from : (box : BoxFrom) (boxes : List BoxFrom) → IsIn box (reduce_from boxes) → IsIn box boxes
 in-reduce_from box boxes h =
-    in-reduced with_from (λ x new kept. in-taken (list_any (λ (b : BoxFrom). are_subsets new.code_box.sets b.code_box.sets) kept) (λ (b : BoxFrom). not (are_subsets b.code_box.sets new.code_box.sets)) x new kept) box boxes h
+    in-reduced with_from (λ x new kept. in-taken (list_any (λ (b : BoxFrom). are_subsets new.code_box.sets b.code_box.sets) kept)
+    (λ (b : BoxFrom). not (are_subsets b.code_box.sets new.code_box.sets)) x new kept) box boxes h
 
 -- ---- without the origins
 
@@ -82,12 +88,16 @@ sets-filter p [] = refl
 sets-filter p (b ∷ boxes) = by (p b.code_box.sets) (sets-filter p boxes)
   where
     by : (t : Bool) → sets_of (filter (λ (b : BoxFrom). p b.code_box.sets) boxes) ≡ filter p (sets_of boxes)
-        → sets_of (if t then b ∷ filter (λ (b : BoxFrom). p b.code_box.sets) boxes else filter (λ (b : BoxFrom). p b.code_box.sets) boxes) ≡ (if t then b.code_box.sets ∷ filter p (sets_of boxes) else filter p (sets_of boxes))
+        → sets_of (if t then b ∷ filter (λ (b : BoxFrom). p b.code_box.sets) boxes else filter (λ (b : BoxFrom). p b.code_box.sets) boxes)
+        ≡ (if t then b.code_box.sets ∷ filter p (sets_of boxes) else filter p (sets_of boxes))
     by true e = ap (λ bs. b.code_box.sets ∷ bs) e
     by false e = e
 
 pub sets-with_from : (kept : List BoxFrom) (new : BoxFrom) → sets_of (with_from kept new) ≡ with_box (sets_of kept) new.code_box.sets
-sets-with_from kept new = by (list_any (λ (b : BoxFrom). are_subsets new.code_box.sets b.code_box.sets) kept) ∙ ap (λ t. if t then sets_of kept else filter (λ b. not (are_subsets b new.code_box.sets)) (sets_of kept) ++ new.code_box.sets ∷ []) (sym (any-map (λ b. are_subsets new.code_box.sets b) (λ (b : BoxFrom). b.code_box.sets) kept))
+sets-with_from kept new =
+    by (list_any (λ (b : BoxFrom). are_subsets new.code_box.sets b.code_box.sets) kept)
+    ∙ ap (λ t. if t then sets_of kept else filter (λ b. not (are_subsets b new.code_box.sets)) (sets_of kept) ++ new.code_box.sets ∷ [])
+    (sym (any-map (λ b. are_subsets new.code_box.sets b) (λ (b : BoxFrom). b.code_box.sets) kept))
   where
     by : (t : Bool) → sets_of (if t then kept else filter (λ (b : BoxFrom). not (are_subsets b.code_box.sets new.code_box.sets)) kept ++ new ∷ [])
         ≡ (if t then sets_of kept else filter (λ b. not (are_subsets b new.code_box.sets)) (sets_of kept) ++ new.code_box.sets ∷ [])

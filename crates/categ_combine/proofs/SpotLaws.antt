@@ -1,4 +1,5 @@
-use Rattle.std.proofs.Common.{◌≡◌, ℕ, zero, suc, ◌-◌, ◌<◌, ◌^◌, true, List, [], ◌∷◌, length, map, slice_index_or, slice_set, pow-suc, sym, ap, ◌∙◌, subst, arith}
+use Rattle.std.proofs.Common.{◌≡◌, ℕ, zero, suc, ◌-◌, ◌<◌, ◌^◌, true, List, [], ◌∷◌, length, map, slice_index_or, slice_set, pow-suc, sym, ap, ◌∙◌}
+use Rattle.std.proofs.Common.{subst, arith}
 use Rattle.std.proofs.lemmas.Nat.{pow_pos}
 use Rattle.edit_line.specs.inner.SetBounds.{AreWithin}
 use Rattle.edit_line.specs.Sets.{AreSets, none_is_empty}
@@ -15,7 +16,8 @@ use Rattle.edit_line.proofs.PointCodes.{place_of-below, whole_of-is}
 -- A field's place in a box, and the sets of a box there.
 
 -- the place is within each box
-pub spot-within : (shape own : List Domain) (sets : List ℕ) (place whole : ℕ) → IsSpot shape place whole → own ≡ shape → AreSets sets (whole_sets own) → place < length sets
+pub spot-within : (shape own : List Domain) (sets : List ℕ) (place whole : ℕ) → IsSpot shape place whole → own ≡ shape → AreSets sets (whole_sets own)
+    → place < length sets
 spot-within shape own sets place whole is over are = omega (arith, is.within, AreSets-length sets (whole_sets own) are, ap (λ s. length (whole_sets s)) over)
 
 -- the whole set is that of a box over the same fields
@@ -23,29 +25,39 @@ own-whole : (shape own : List Domain) (place whole : ℕ) → IsSpot shape place
 own-whole shape own place whole is over = is.whole_is ∙ ap (λ s. slice_index_or (whole_sets s) place 0) (sym over)
 
 -- a box made whole there
-pub made-whole : (shape own : List Domain) (sets : List ℕ) (place whole : ℕ) → IsSpot shape place whole → own ≡ shape → AreSets sets (whole_sets own) → AreSets (slice_set sets place whole) (whole_sets own)
+pub made-whole : (shape own : List Domain) (sets : List ℕ) (place whole : ℕ) → IsSpot shape place whole → own ≡ shape → AreSets sets (whole_sets own)
+    → AreSets (slice_set sets place whole) (whole_sets own)
 made-whole shape own sets place whole is over are =
-    subst (λ (w : ℕ). AreSets (slice_set sets place w) (whole_sets own)) (sym (own-whole shape own place whole is over)) (AreSets-whole sets (whole_sets own) place are)
+    subst (λ (w : ℕ). AreSets (slice_set sets place w) (whole_sets own)) (sym (own-whole shape own place whole is over))
+    (AreSets-whole sets (whole_sets own) place are)
 
 -- what two boxes have in common, made whole there
-pub common-sets : (shape own other : List Domain) (first second : List ℕ) (place whole : ℕ) → IsSpot shape place whole → own ≡ shape → other ≡ shape → AreSets first (whole_sets own) → AreSets second (whole_sets other)
+pub common-sets : (shape own other : List Domain) (first second : List ℕ) (place whole : ℕ) → IsSpot shape place whole → own ≡ shape → other ≡ shape
+    → AreSets first (whole_sets own) → AreSets second (whole_sets other)
     → none_is_empty (slice_set (in_both first second) place whole) ≡ true → AreSets (slice_set (in_both first second) place whole) (whole_sets own)
 common-sets shape own other first second place whole is over over' a b some =
     AreSets-within (slice_set (in_both first second) place whole) (whole_sets own) some (
     subst (λ (w : ℕ). AreWithin (slice_set (in_both first second) place w) (whole_sets own)) (sym (own-whole shape own place whole is over)) (
     AreWithin-whole (in_both first second) (whole_sets own) place (
-    AreWithin-common first second (whole_sets own) (AreSets-wide first (whole_sets own) a) (AreSets-wide second (whole_sets own) (subst (λ s. AreSets second (whole_sets s)) (over' ∙ sym over) b))
+    AreWithin-common first second (whole_sets own) (AreSets-wide first (whole_sets own) a)
+    (AreSets-wide second (whole_sets own) (subst (λ s. AreSets second (whole_sets s)) (over' ∙ sym over) b))
     )
     )
     )
 
-pub common-within : (shape own other : List Domain) (first second : List ℕ) (place whole : ℕ) → IsSpot shape place whole → own ≡ shape → other ≡ shape → AreSets first (whole_sets own) → AreSets second (whole_sets other) → place < length (in_both first second)
+pub common-within : (shape own other : List Domain) (first second : List ℕ) (place whole : ℕ) → IsSpot shape place whole → own ≡ shape → other ≡ shape
+    → AreSets first (whole_sets own) → AreSets second (whole_sets other) → place < length (in_both first second)
 common-within shape own other first second place whole is over over' a b =
     omega (
       arith,
       spot-within shape own first place whole is over a,
       spot-within shape other second place whole is over' b,
-      length-meets first second (omega (arith, AreSets-length first (whole_sets own) a, AreSets-length second (whole_sets other) b, ap (λ s. length (whole_sets s)) (over ∙ sym over'))),
+      length-meets first second (omega (
+        arith,
+        AreSets-length first (whole_sets own) a,
+        AreSets-length second (whole_sets other) b,
+        ap (λ s. length (whole_sets s)) (over ∙ sym over'),
+      )),
     )
 
 -- the whole sets are sets

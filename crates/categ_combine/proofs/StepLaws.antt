@@ -27,7 +27,8 @@ if_ok P P' Q (Ok a) next p p' = next a p p'
 if_ok P P' Q (Err e) next p p' = tt
 
 -- the shape of the first box is that of all
-pub first-shape : (boxes : List BoxFrom) (first : BoxFrom) (shape : List Domain) → Some first ≡ slice_get boxes 0 → AreBoxesOver shape boxes → first.code_box.shape ≡ shape
+pub first-shape : (boxes : List BoxFrom) (first : BoxFrom) (shape : List Domain) → Some first ≡ slice_get boxes 0 → AreBoxesOver shape boxes
+    → first.code_box.shape ≡ shape
 first-shape [] first shape is over = absurd (cc)
 first-shape (b ∷ boxes) first shape is over = let same : first ≡ b = cc in ap (λ (x : BoxFrom). x.code_box.shape) same ∙ over 0 b (omega arith)
 
@@ -46,18 +47,22 @@ have-sets shape boxes over are sets there =
 
 -- ---- fixing a code
 
-module _ (own shape : List Domain) (boxes left : List BoxFrom) (f code place whole : ℕ) (same : own ≡ shape) (at : place ≡ place_of own f) (is : whole ≡ whole_of own f) (made : left ≡ reduce_from (each_from (fixed_one place whole code) 0 boxes)) where
+module _ (own shape : List Domain) (boxes left : List BoxFrom) (f code place whole : ℕ) (same : own ≡ shape) (at : place ≡ place_of own f)
+    (is : whole ≡ whole_of own f) (made : left ≡ reduce_from (each_from (fixed_one place whole code) 0 boxes)) where
   pub fixed-exact : left ≡ fixed_from shape boxes f code
   fixed-exact =
-      made ∙ ap (λ n. reduce_from (each_from (fixed_one n whole code) 0 boxes)) at ∙ ap (λ n. reduce_from (each_from (fixed_one (place_of own f) n code) 0 boxes)) is ∙ ap (λ s. fixed_from s boxes f code) same
+      made ∙ ap (λ n. reduce_from (each_from (fixed_one n whole code) 0 boxes)) at
+      ∙ ap (λ n. reduce_from (each_from (fixed_one (place_of own f) n code) 0 boxes)) is ∙ ap (λ s. fixed_from s boxes f code) same
 
   pub fixed-sets : sets_of left ≡ fixed shape (sets_of boxes) f code
   fixed-sets = ap (λ bs. sets_of bs) fixed-exact ∙ sets-fixed_from shape boxes f code
 
-  pub fixed-same : (p : Point) → AreBoxesOver shape boxes → AreBoxes boxes → code < size_of shape f → HasCodes 0 shape p → Avoids shape (sets_of left) p ↔ Avoids shape (sets_of boxes) (with_code_at p f code)
+  pub fixed-same : (p : Point) → AreBoxesOver shape boxes → AreBoxes boxes → code < size_of shape f → HasCodes 0 shape p
+      → Avoids shape (sets_of left) p ↔ Avoids shape (sets_of boxes) (with_code_at p f code)
   fixed-same p over are below held =
       let told : avoid (sets_of left) (codes_at shape p) ≡ avoid (sets_of boxes) (codes_at shape (with_code_at p f code)) =
-      ap (λ bs. avoid bs (codes_at shape p)) fixed-sets ∙ fixed-avoids shape (sets_of boxes) f p (have-sets shape boxes over are) (omega (arith, below)) held code in
+      ap (λ bs. avoid bs (codes_at shape p)) fixed-sets ∙ fixed-avoids shape (sets_of boxes) f p (have-sets shape boxes over are) (omega (arith, below))
+      held code in
       (λ h. sym told ∙ h, λ h. told ∙ h)
 
 -- ---- elimination
@@ -67,7 +72,8 @@ module _ (own shape : List Domain) (boxes : List BoxFrom) (f : ℕ) (same : own 
   done-sets (Done left pairs) are = ap (λ bs. sets_of bs) are.0 ∙ sets-covered own boxes f ∙ ap (λ s. covered s (sets_of boxes) f) same
   done-sets Passed are = tt
 
-  pub done-same : AreBoxesOver shape boxes → TakesCodes shape f → (told : Covered) → IsDone told (IsElimination own boxes f) → IsDone told (λ left pairs. AreBoxes boxes)
+  pub done-same : AreBoxesOver shape boxes → TakesCodes shape f → (told : Covered) → IsDone told (IsElimination own boxes f)
+      → IsDone told (λ left pairs. AreBoxes boxes)
       → IsDone told (λ left pairs. SayWithSomeCode shape boxes f left)
   done-same over takes (Done left pairs) are fit = λ p held.
       let is = done-sets (Done left pairs) are in
@@ -90,7 +96,8 @@ module _ (place whole : ℕ) where
 
   none-covers : (covers : List BoxFrom) (size : ℕ) → 0 < size → fold (λ covers code. with_code_from place whole [] covers code) covers (codes_up 0 size) ≡ []
   none-covers covers zero some = absurd (omega arith)
-  none-covers covers (suc k) some = ap (λ bs. fold (λ covers code. with_code_from place whole [] covers code) (reduce_from bs) (codes_up 1 k)) (no_rows 0 covers) ∙ no_covers (codes_up 1 k)
+  none-covers covers (suc k) some =
+      ap (λ bs. fold (λ covers code. with_code_from place whole [] covers code) (reduce_from bs) (codes_up 1 k)) (no_rows 0 covers) ∙ no_covers (codes_up 1 k)
 
   none-pairs : (covers : List (List ℕ)) (codes : List ℕ) → code_pairs place whole [] covers codes ≡ 0
   none-pairs covers [] = refl

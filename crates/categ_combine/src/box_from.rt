@@ -1,3 +1,4 @@
+//! A box of codes with its origin, from which a derivation of it can later be written down.
 ghost use Rattle.std.specs.Prelude.{◌≡◌, IfOk};
 ghost use Rattle.edit_line.specs.Sets.{AreSets};
 ghost use Rattle.edit_line.specs.Domains.{domains};

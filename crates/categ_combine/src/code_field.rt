@@ -1,3 +1,4 @@
+//! Where a categorical field stands in the sets of a box, found once for all boxes.
 ghost use Rattle.std.specs.Prelude.{◌≡◌, ◌≤◌, length, nat_lt, slice_index_or, take};
 ghost use Rattle.std.specs.List.{filter};
 ghost use Rattle.edit_line.specs.Boxes.{IsBox};
@@ -8,7 +9,8 @@ use crate::box_from::BoxFrom;
 use crate::spot::Spot;
 use edit_line::{Shape, whole_set};
 
-/// Where the field stands among the categorical ones. No memory.
+/// The spot of the categorical field: its place among the categorical ones, and the set of all its codes.
+/// No memory.
 pub(crate) fn spot_of(shape: Shape, field: u32) -> Spot
     requires { TakesCodes (domains shape) field }
     ensures place { result.place ≡ place_of (domains shape) field }
@@ -24,7 +26,7 @@ pub(crate) fn spot_of(shape: Shape, field: u32) -> Spot
     }
 }
 
-// The field's place among the categorical ones.
+// The field's place among the categorical ones, from 0.
 fn place_of(shape: &Shape, field: u32) -> usize
     requires { TakesCodes (domains shape.now) field }
     ensures { result ≡ place_of (domains shape.now) field }
@@ -32,7 +34,8 @@ fn place_of(shape: &Shape, field: u32) -> usize
     code_fields_before(shape.code_counts(), field as usize)
 }
 
-// How many of this number of first fields have codes.
+// How many fields before the field of this number are categorical: the counts are of each field's codes, 0
+// for a numerical one.
 fn code_fields_before(counts: &[u8], field: usize) -> usize
     requires { field ≤ length counts.now }
     ensures { result ≡ length (filter (λ k. nat_lt 0 k) (take field counts.now)) }
@@ -41,7 +44,7 @@ fn code_fields_before(counts: &[u8], field: usize) -> usize
     before.iter().filter(|k| **k > 0).count()
 }
 
-/// The box's set at the field.
+/// The box's set of codes, as bits, at the field of the spot.
 pub(crate) fn set_at(b: &BoxFrom, spot: &Spot) -> u64
     requires { b.now.code_box.shape ≡ domains spot.now.shape }
     ensures set { result ≡ slice_index_or b.now.code_box.sets spot.now.place 0 }

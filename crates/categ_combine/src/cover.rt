@@ -1,4 +1,6 @@
-//! The covers of a field's codes: intersections of one box for each code, made whole at the field.
+//! The covers of a field's codes, made code by code: intersections of one box for each code, whole at the
+//! field. Whatever code the field has, one of these boxes forbids what a cover has. Below, `spot` is the
+//! field, and `at` the field with one of its codes; `next` are the covers with one code more.
 ghost use Rattle.std.specs.Prelude.{◌≡◌, ◌++◌, [], ◌∷◌, true, IfOk, OnOk};
 ghost use Rattle.std.specs.List.{fold};
 ghost use Rattle.edit_line.specs.Sets.{AreSets, none_is_empty};
@@ -10,93 +12,100 @@ ghost use Rattle.categ_combine.specs.Covers.{cover_parts, joined_for, meets_but,
 use crate::box_from::{BoxFrom, BoxOrigin};
 use crate::code_field::set_at;
 use crate::reduction::{lie_inside, put_in};
-use crate::spot::Spot;
+use crate::spot::{CodeAt, Spot};
 use edit_line::{CodeBox, has_code, has_codes, narrow};
 use foundation::{OutOfMemory, Sequence};
 use std::alloc::Global;
 
-/// The covers of one more code: what each has in common with each box that takes part for the code,
-/// without those that lie inside another.
+/// The covers of one more code that are made so far, none of them inside another, and room for the sets of the next.
+#[derive(Drop)]
+struct CoverWork {
+    next: Vec<BoxFrom>,
+    sets: Vec<u64>,
+}
+
+/// The covers of one code more than those of `covers`: what each has in common with each box that takes
+/// part for the code. Those that lie inside another are left out.
 pub(crate) fn with_code(
     alloc: Global,
     boxes: &[BoxFrom],
     covers: &[BoxFrom],
-    spot: &Spot,
-    code: u8,
+    at: &CodeAt,
 ) -> Result<Vec<BoxFrom>, OutOfMemory>
-    requires boxes { AreBoxesOver (domains spot.now.shape) boxes.now }
-    requires covers { AreBoxesOver (domains spot.now.shape) covers.now }
-    ensures next { IfOk result (λ next. next.items ≡ with_code_from spot.now.place spot.now.whole boxes.now covers.now code) }
-    ensures over { IfOk result (λ next. AreBoxesOver (domains spot.now.shape) next.items) }
+    requires boxes { AreBoxesOver (domains at.now.spot.shape) boxes.now }
+    requires covers { AreBoxesOver (domains at.now.spot.shape) covers.now }
+    ensures next { IfOk result (λ next. next.items
+        ≡ with_code_from at.now.spot.place at.now.spot.whole boxes.now covers.now at.now.code) }
+    ensures over { IfOk result (λ next. AreBoxesOver (domains at.now.spot.shape) next.items) }
 {
-    let mut next = Vec::new(alloc);
-    let mut sets = Vec::new(alloc);
+    let mut work = CoverWork {
+        next: Vec::new(alloc),
+        sets: Vec::new(alloc),
+    };
     for cover in covers {
-        take_row(alloc, &mut next, &mut sets, boxes, cover, spot, code)?;
+        take_row(alloc, &mut work, boxes, cover, at)?;
     }
-    Ok(next)
+    Ok(work.next)
 }
 
-/// Whether the box takes part for the code: it is not whole at the field, and has the code there.
-pub(crate) fn takes_part(b: &BoxFrom, spot: &Spot, code: u8) -> bool
-    requires { b.now.code_box.shape ≡ domains spot.now.shape }
-    ensures { result ≡ takes_part spot.now.place spot.now.whole code b.now.code_box.sets }
+/// Whether the box takes part for the code at the spot's field. It has the code there, and not all codes: a
+/// box with all stays as it is.
+pub(crate) fn takes_part(b: &BoxFrom, at: &CodeAt) -> bool
+    requires { b.now.code_box.shape ≡ domains at.now.spot.shape }
+    ensures { result ≡ takes_part at.now.spot.place at.now.spot.whole at.now.code b.now.code_box.sets }
 {
-    let set = set_at(b, spot);
-    set != spot.whole && has_code(set, code)
+    let set = set_at(b, &at.spot);
+    set != at.spot.whole && has_code(set, at.code)
 }
 
-// Takes what the cover has in common with each box that takes part for the code into the next covers. The
-// sets are room to work in.
+// Takes what the cover has in common with each box that takes part for the code into the next covers.
 fn take_row(
     alloc: Global,
-    next: &mut Vec<BoxFrom>,
-    sets: &mut Vec<u64>,
+    work: &mut CoverWork,
     boxes: &[BoxFrom],
     cover: &BoxFrom,
-    spot: &Spot,
-    code: u8,
+    at: &CodeAt,
 ) -> Result<(), OutOfMemory>
-    requires boxes { AreBoxesOver (domains spot.now.shape) boxes.now }
-    requires cover { cover.now.code_box.shape ≡ domains spot.now.shape }
-    ensures { OnOk result (next.new.items
-        ≡ fold with_from next.old.items (row_of spot.now.place spot.now.whole code boxes.now cover.now)) }
+    requires boxes { AreBoxesOver (domains at.now.spot.shape) boxes.now }
+    requires cover { cover.now.code_box.shape ≡ domains at.now.spot.shape }
+    ensures { OnOk result (work.new.next.items ≡ fold with_from work.old.next.items
+        (row_of at.now.spot.place at.now.spot.whole at.now.code boxes.now cover.now)) }
 {
     for (i, b) in boxes.iter().enumerate() {
-        take_joined(alloc, next, sets, cover, spot, code, i as u64, b)?;
+        take_joined(alloc, work, cover, at, i as u64, b)?;
     }
     Ok(())
 }
 
-// Takes the cover with the box as its next part into the next covers, where the box takes part for the
-// code and that leaves codes. The sets are room to work in, so that nothing is made of what is left out.
+// Takes what the cover has in common with the box `b`, at the place, into the next covers; the box is then
+// its next part. It is left out where the box does not take part for the code, or where a set comes out
+// empty. No box is made of what is left out.
 fn take_joined(
     alloc: Global,
-    next: &mut Vec<BoxFrom>,
-    sets: &mut Vec<u64>,
+    work: &mut CoverWork,
     cover: &BoxFrom,
-    spot: &Spot,
-    code: u8,
+    at: &CodeAt,
     place: u64,
     b: &BoxFrom,
 ) -> Result<(), OutOfMemory>
-    requires cover { cover.now.code_box.shape ≡ domains spot.now.shape }
-    requires other { b.now.code_box.shape ≡ domains spot.now.shape }
-    ensures { OnOk result (next.new.items
-        ≡ fold with_from next.old.items (joined_for spot.now.place spot.now.whole code cover.now place b.now)) }
+    requires cover { cover.now.code_box.shape ≡ domains at.now.spot.shape }
+    requires other { b.now.code_box.shape ≡ domains at.now.spot.shape }
+    ensures { OnOk result (work.new.next.items ≡ fold with_from work.old.next.items
+        (joined_for at.now.spot.place at.now.spot.whole at.now.code cover.now place b.now)) }
 {
-    if !takes_part(b, spot, code) {
+    if !takes_part(b, at) {
         return Ok(());
     }
-    write_joined(sets, cover, spot, b)?;
-    if has_codes(sets) {
-        take_sets(alloc, next, sets, cover, place)
+    write_joined(&mut work.sets, cover, &at.spot, b)?;
+    if has_codes(&work.sets) {
+        take_sets(alloc, &mut work.next, &work.sets, cover, place)
     } else {
         Ok(())
     }
 }
 
-// Writes what the cover and the box have in common on the other fields, and the whole set at the field.
+// Writes into `sets` what the cover and the box have in common on the other fields, and the whole set at
+// the spot's field.
 fn write_joined(
     sets: &mut Vec<u64>,
     cover: &BoxFrom,
@@ -115,7 +124,8 @@ fn write_joined(
     Ok(())
 }
 
-// Takes the cover of these sets, with the box at the place as its last part, into the next covers.
+// Takes the cover of these sets into the next covers, unless it lies inside one of them. Its parts are
+// those of `cover`, and the box at the place.
 fn take_sets(
     alloc: Global,
     next: &mut Vec<BoxFrom>,
@@ -135,7 +145,7 @@ fn take_sets(
     put_in(next, BoxFrom { code_box, origin })
 }
 
-// The parts of a cover; another box has none.
+// The places of a cover's parts; a box that is no cover has none.
 fn parts_of(origin: &BoxOrigin) -> &[u64]
     ensures { result.now ≡ cover_parts origin.now }
 {
@@ -145,7 +155,7 @@ fn parts_of(origin: &BoxOrigin) -> &[u64]
     }
 }
 
-// The list with one more number.
+// The list with one more number behind it.
 fn longer(alloc: Global, parts: &[u64], part: u64) -> Result<Vec<u64>, OutOfMemory>
     ensures { IfOk result (λ all. all.items ≡ parts.now ++ part ∷ []) }
 {

@@ -1,3 +1,4 @@
+//! The answer of the elimination of a categorical field, whose work has a limit.
 use crate::box_from::BoxFrom;
 use foundation::Sequence;
 

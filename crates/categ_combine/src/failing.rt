@@ -1,3 +1,7 @@
+//! The boxes of a record: what its lines forbid of codes, given its numbers. Elimination of categorical
+//! fields begins with them. In contracts, `failing_from` has these boxes, or the first line and field at
+//! which a sum leaves the range. `SayTheLines` says that codes avoid the boxes exactly where the lines
+//! hold.
 ghost use Rattle.std.specs.Prelude.{◌≡◌, [], All, Err, IfOk, Ok, OnOk, ℕ};
 ghost use Rattle.edit_model.specs.Rows.{IsRow};
 ghost use Rattle.edit_line.specs.Reductions.{lines_of};
@@ -16,11 +20,11 @@ use edit_model::{Row, Survey};
 use foundation::OutOfMemory;
 use std::alloc::Global;
 
-/// The boxes of codes that the lines forbid at the record: the sets of the lines that fail there, in
-/// order, without those that lie inside another. Each has the place of its line as its origin. A field
-/// that is Bad adds nothing to a line's sum. Overflow exactly where a line's sum leaves the range, at the
-/// first line of which it does and at the first field. At a point that agrees with the record at the
-/// fields with a factor other than 0, the lines all hold exactly where the codes avoid the boxes.
+/// The boxes of codes that the lines forbid at the record: the sets of the lines that fail there, in order,
+/// without those that lie inside another. Each has the place of its line as its origin. A field that is Bad
+/// adds nothing to a line's sum. Overflow exactly where a line's sum leaves the range, at the first line of
+/// which it does and at the first field. At a point with the record's values at the fields that stand in
+/// the lines, these all hold exactly where the codes avoid the boxes.
 pub fn boxes_of(
     alloc: Global,
     survey: &Survey,
@@ -55,7 +59,7 @@ pub fn boxes_of(
     Ok(kept)
 }
 
-// Takes the sets of the line at the place into the kept boxes, where it fails.
+// Takes the sets of the line at the place into the kept boxes, if its linear part failed at the record.
 fn take_line(
     alloc: Global,
     kept: &mut Vec<BoxFrom>,

@@ -1,3 +1,4 @@
+//! Why there are no boxes of a record.
 use foundation::OutOfMemory;
 use std::{error, fmt};
 
@@ -17,6 +18,7 @@ impl fmt::Display for BoxFault {
 
     ghost output = { λ fault. Some (text_of fault) };
 
+    // Writes what is printed of the fault, without a line feed.
     fn fmt<W: fmt::Write>(&self, f: &mut fmt::Formatter<W>) -> fmt::Result {
         match self {
             BoxFault::Overflow { line, field } => {
@@ -38,6 +40,7 @@ impl From<OutOfMemory> for BoxFault {
 
     ghost from_gives = { λ _ fault. fault ≡ faults.OutOfMemory };
 
+    // Memory that is refused is one of the faults.
     fn from(_refused: OutOfMemory) -> Self {
         BoxFault::OutOfMemory
     }

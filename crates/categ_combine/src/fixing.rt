@@ -1,4 +1,6 @@
-//! A code that is kept at a categorical field.
+//! What a record's boxes forbid of the other fields where a categorical field keeps its code. In
+//! contracts, `ForShape` speaks of the shape that the boxes are over. `LieApart` says that none lies
+//! inside another, and `IsClear` when a kept box need not be compared with a later one.
 ghost use Rattle.std.specs.Prelude.{◌≡◌, ◌&&◌, ◌++◌, [], ◌∷◌, All, IfOk, OnOk, if◌then◌else◌, not, slice_set, true};
 ghost use Rattle.std.specs.List.{filter, fold, list_any};
 ghost use Rattle.edit_line.specs.Boxes.{IsBox, box_of};
@@ -22,8 +24,18 @@ use edit_line::{CodeBox, has_code};
 use foundation::OutOfMemory;
 use std::alloc::Global;
 
-/// The boxes that a code leaves at a categorical field that keeps it: those whose set there has the code,
-/// made whole there, without those that lie inside another. A box that was whole there is unchanged.
+/// A code that a categorical field keeps, and whether the boxes are known to lie apart: none inside another.
+#[derive(Clone, Copy)]
+struct Fixing {
+    spot: Spot,
+    code: u8,
+    apart: bool,
+}
+
+/// The boxes that are left where a categorical field keeps its code. They are those whose set there has
+/// the code, made whole there, without those that lie inside another. A box that was whole there is
+/// unchanged. Codes avoid these boxes exactly where, with the code at the field, they avoid the given
+/// ones. These are over one survey's fields, and the code is one of the field's.
 pub fn fix(
     alloc: Global,
     boxes: &[BoxFrom],
@@ -47,14 +59,22 @@ pub fn fix(
         None => Ok(Vec::new(alloc)),
         Some(first) => {
             let spot = spot_of(first.shape(), field);
-            fix_at(alloc, boxes, &spot, code, false)
+            fix_at(
+                alloc,
+                boxes,
+                &Fixing {
+                    spot,
+                    code,
+                    apart: false,
+                },
+            )
         }
     }
 }
 
-/// The boxes that a code leaves at a categorical field that keeps it, as [`fix`] tells them, of boxes of which none lies inside
-/// another. Those that are whole at the field stay as they were, so they are not compared with one another; at most fields most
-/// boxes are.
+/// The boxes that are left where a categorical field keeps its code, as [`fix`] tells them, of boxes of
+/// which none lies inside another. Those that are whole at the field stay as they were, so they are not
+/// compared with one another, for speed.
 pub fn fix_apart(
     alloc: Global,
     boxes: &[BoxFrom],
@@ -73,81 +93,83 @@ pub fn fix_apart(
         None => Ok(Vec::new(alloc)),
         Some(first) => {
             let spot = spot_of(first.shape(), field);
-            fix_at(alloc, boxes, &spot, code, true)
+            fix_at(
+                alloc,
+                boxes,
+                &Fixing {
+                    spot,
+                    code,
+                    apart: true,
+                },
+            )
         }
     }
 }
 
-// The boxes that the code leaves at the field that stands there. They may be known to lie apart: none inside another.
-fn fix_at(
-    alloc: Global,
-    boxes: &[BoxFrom],
-    spot: &Spot,
-    code: u8,
-    apart: bool,
-) -> Result<Vec<BoxFrom>, OutOfMemory>
-    requires over { AreBoxesOver (domains spot.now.shape) boxes.now }
-    requires apart { apart ≡ true → LieApart boxes.now }
+// The boxes that are left where the field keeps its code, as [`fix`] tells them. `by` has the field and
+// the code, and says whether the boxes lie apart.
+fn fix_at(alloc: Global, boxes: &[BoxFrom], by: &Fixing) -> Result<Vec<BoxFrom>, OutOfMemory>
+    requires over { AreBoxesOver (domains by.now.spot.shape) boxes.now }
+    requires apart { by.now.apart ≡ true → LieApart boxes.now }
     ensures left { IfOk result (λ left. left.items
-        ≡ reduce_from (each_from (fixed_one spot.now.place spot.now.whole code) 0 boxes.now)) }
+        ≡ reduce_from (each_from (fixed_one by.now.spot.place by.now.spot.whole by.now.code) 0 boxes.now)) }
     ensures fit { OnOk result (AreBoxes boxes.now) }
 {
     let mut kept = Vec::with_capacity(alloc, boxes.len())?;
     for (i, b) in boxes.iter().enumerate() {
-        take_fixed(alloc, &mut kept, spot, code, i as u64, b, apart)?;
+        take_fixed(alloc, &mut kept, by, i as u64, b)?;
     }
     Ok(kept)
 }
 
-// Takes the box at a place into the kept ones, made whole, where it has the code.
+// Takes the box `b`, at the place `i`, into the kept ones, made whole at the spot's field. A box without
+// the code there is left out, since it forbids nothing any more.
 fn take_fixed(
     alloc: Global,
     kept: &mut Vec<BoxFrom>,
-    spot: &Spot,
-    code: u8,
+    by: &Fixing,
     i: u64,
     b: &BoxFrom,
-    apart: bool,
 ) -> Result<(), OutOfMemory>
-    requires shape { b.now.code_box.shape ≡ domains spot.now.shape }
-    requires clear { apart ≡ true → All (λ k. IsClear spot.now.place spot.now.whole k b.now.code_box.sets) kept.old.items }
-    ensures kept { OnOk result (kept.new.items ≡ fold with_from kept.old.items (fixed_one spot.now.place spot.now.whole code i b.now)) }
+    requires shape { b.now.code_box.shape ≡ domains by.now.spot.shape }
+    requires clear { by.now.apart ≡ true → All (λ k. IsClear by.now.spot.place by.now.spot.whole k b.now.code_box.sets) kept.old.items }
+    ensures kept { OnOk result (kept.new.items ≡ fold with_from kept.old.items
+        (fixed_one by.now.spot.place by.now.spot.whole by.now.code i b.now)) }
     ensures fit { IsBox b.now.code_box }
 {
-    let set = set_at(b, spot);
-    if !has_code(set, code) {
+    let set = set_at(b, &by.spot);
+    if !has_code(set, by.code) {
         return Ok(());
     }
-    if set == spot.whole {
-        take_unchanged(alloc, kept, spot, i, b, apart)
+    if set == by.spot.whole {
+        take_unchanged(alloc, kept, by, i, b)
     } else {
-        take_widened(alloc, kept, spot, i, b, apart)
+        take_widened(alloc, kept, by, i, b)
     }
 }
 
-// Takes a box that is whole at the field into the kept ones.
+// Takes the box `b`, at the place `i` and whole at the spot's field, into the kept ones. Where the boxes
+// lie apart, no kept box can lie inside it, and none is looked for.
 fn take_unchanged(
     alloc: Global,
     kept: &mut Vec<BoxFrom>,
-    spot: &Spot,
+    by: &Fixing,
     i: u64,
     b: &BoxFrom,
-    apart: bool,
 ) -> Result<(), OutOfMemory>
-    requires shape { b.now.code_box.shape ≡ domains spot.now.shape }
-    requires whole { is_whole_at spot.now.place spot.now.whole b.now.code_box.sets ≡ true }
-    requires clear { apart ≡ true → All (λ k. IsClear spot.now.place spot.now.whole k b.now.code_box.sets) kept.old.items }
+    requires shape { b.now.code_box.shape ≡ domains by.now.spot.shape }
+    requires whole { is_whole_at by.now.spot.place by.now.spot.whole b.now.code_box.sets ≡ true }
+    requires clear { by.now.apart ≡ true → All (λ k. IsClear by.now.spot.place by.now.spot.whole k b.now.code_box.sets) kept.old.items }
     ensures { OnOk result (kept.new.items ≡ with_from kept.old.items (from_of b.now.code_box.shape b.now.code_box.sets (Unchanged i))) }
 {
-    let _ = spot;
-    if lie_in_compared(b.sets(), kept, apart) {
+    if lie_in_compared(b.sets(), kept, by.apart) {
         return Ok(());
     }
     let new = BoxFrom {
         code_box: b.code_box.copy(alloc)?,
         origin: BoxOrigin::Unchanged(i),
     };
-    if apart {
+    if by.apart {
         kept.push(new)?;
         Ok(())
     } else {
@@ -155,29 +177,30 @@ fn take_unchanged(
     }
 }
 
-// Takes a box that is not whole at the field into the kept ones, made whole.
+// Takes the box `b`, at the place `i` and not whole at the spot's field, into the kept ones, made whole.
 fn take_widened(
     alloc: Global,
     kept: &mut Vec<BoxFrom>,
-    spot: &Spot,
+    by: &Fixing,
     i: u64,
     b: &BoxFrom,
-    apart: bool,
 ) -> Result<(), OutOfMemory>
-    requires shape { b.now.code_box.shape ≡ domains spot.now.shape }
-    requires clear { apart ≡ true → All (λ k. IsClear spot.now.place spot.now.whole k b.now.code_box.sets) kept.old.items }
+    requires shape { b.now.code_box.shape ≡ domains by.now.spot.shape }
+    requires clear { by.now.apart ≡ true → All (λ k. IsClear by.now.spot.place by.now.spot.whole k b.now.code_box.sets) kept.old.items }
     ensures { OnOk result (kept.new.items ≡ with_from kept.old.items
-        (from_of b.now.code_box.shape (slice_set b.now.code_box.sets spot.now.place spot.now.whole) (Fixed i))) }
+        (from_of b.now.code_box.shape (slice_set b.now.code_box.sets by.now.spot.place by.now.spot.whole) (Fixed i))) }
 {
     let _sets = b.sets(); // read for what it says: its sets have no codes but their fields'
     let widened = BoxFrom {
-        code_box: made_whole(alloc, spot, b)?,
+        code_box: made_whole(alloc, &by.spot, b)?,
         origin: BoxOrigin::Fixed(i),
     };
-    put_beside(kept, widened, apart)
+    put_beside(kept, widened, by.apart)
 }
 
-// Takes the box in, unless it lies inside a kept one with which it is compared.
+// Appends the box and removes the kept ones that lie inside it. It does nothing where the box lies inside
+// a kept one with which it is compared, as `is_compared` tells. `apart` says whether the given boxes lie
+// apart.
 fn put_beside(kept: &mut Vec<BoxFrom>, new: BoxFrom, apart: bool) -> Result<(), OutOfMemory>
     ensures { OnOk result (kept.new.items ≡
         (if list_any (λ b. is_compared apart b.origin && are_subsets new.code_box.sets b.code_box.sets) kept.old.items
@@ -190,21 +213,22 @@ fn put_beside(kept: &mut Vec<BoxFrom>, new: BoxFrom, apart: bool) -> Result<(), 
     put_in(kept, new)
 }
 
-// Whether the sets lie inside those of a kept box with which they are compared.
+// Whether the sets lie inside those of a kept box, of the kept boxes with which they are compared.
 fn lie_in_compared(sets: &[u64], kept: &[BoxFrom], apart: bool) -> bool
     ensures { result ≡ list_any (λ b. is_compared apart b.origin && are_subsets sets.now b.code_box.sets) kept.now }
 {
     kept.iter().any(|b| is_compared(&b.origin, apart) && b.code_box.has_inside(sets))
 }
 
-// Whether a later box is compared with the kept one of this origin: where the boxes lie apart, if that was made whole.
+// Whether a later box is compared with the kept one of this origin. Where the boxes lie apart, it can lie
+// only inside one that was made whole.
 fn is_compared(origin: &BoxOrigin, apart: bool) -> bool
     ensures { result ≡ is_compared apart origin.now }
 {
     !apart || matches!(origin, BoxOrigin::Fixed(_))
 }
 
-// The box with all codes of the field.
+// The box with all codes at the spot's field.
 fn made_whole(alloc: Global, spot: &Spot, b: &BoxFrom) -> Result<CodeBox, OutOfMemory>
     requires { b.now.code_box.shape ≡ domains spot.now.shape }
     ensures { IfOk result (λ whole. whole ≡ box_of b.now.code_box.shape (slice_set b.now.code_box.sets spot.now.place spot.now.whole)) }

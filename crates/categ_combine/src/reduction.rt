@@ -1,3 +1,5 @@
+//! Lists of boxes without those that lie inside another, which forbid nothing of their own. Below, `kept`
+//! is such a list, as it grows.
 ghost use Rattle.std.specs.Prelude.{◌≡◌, ◌++◌, [], ◌∷◌, not, OnOk};
 ghost use Rattle.std.specs.List.{filter, list_any};
 ghost use Rattle.edit_line.specs.Sets.{are_subsets};
@@ -6,7 +8,8 @@ ghost use Rattle.categ_combine.specs.BoxLists.{with_from};
 use crate::box_from::BoxFrom;
 use foundation::OutOfMemory;
 
-/// Appends the box without those that lie inside it, unless it lies inside one of them.
+/// Appends the box and removes the kept ones that lie inside it; but does nothing where it lies inside a
+/// kept one.
 pub(crate) fn take_in(kept: &mut Vec<BoxFrom>, new: BoxFrom) -> Result<(), OutOfMemory>
     ensures { OnOk result (kept.new.items ≡ with_from kept.old.items new) }
 {
@@ -16,14 +19,14 @@ pub(crate) fn take_in(kept: &mut Vec<BoxFrom>, new: BoxFrom) -> Result<(), OutOf
     put_in(kept, new)
 }
 
-/// Whether the sets lie inside those of a kept box. It looks no further than the first in which they do.
+/// Whether the sets lie inside those of a kept box.
 pub(crate) fn lie_inside(sets: &[u64], kept: &[BoxFrom]) -> bool
     ensures { result ≡ list_any (λ b. are_subsets sets.now b.code_box.sets) kept.now }
 {
     kept.iter().any(|b| b.code_box.has_inside(sets))
 }
 
-/// Appends the box without those that lie inside it.
+/// Appends the box, and removes the kept ones that lie inside it.
 pub(crate) fn put_in(kept: &mut Vec<BoxFrom>, new: BoxFrom) -> Result<(), OutOfMemory>
     ensures { OnOk result (kept.new.items
         ≡ filter (λ b. not (are_subsets b.code_box.sets new.code_box.sets)) kept.old.items ++ new ∷ []) }
@@ -33,7 +36,7 @@ pub(crate) fn put_in(kept: &mut Vec<BoxFrom>, new: BoxFrom) -> Result<(), OutOfM
     Ok(())
 }
 
-// Removes the boxes that lie inside the box.
+// Removes the kept boxes that lie inside `new`.
 fn remove_inside(kept: &mut Vec<BoxFrom>, new: &BoxFrom)
     ensures { kept.new.items ≡ filter (λ b. not (are_subsets b.code_box.sets new.now.code_box.sets)) kept.old.items }
 {

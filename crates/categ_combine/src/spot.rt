@@ -1,3 +1,4 @@
+//! A categorical field as boxes are looked at for it.
 ghost use Rattle.edit_line.specs.Domains.{domains};
 ghost use Rattle.categ_combine.specs.inner.Spots.{IsSpot};
 
@@ -10,4 +11,11 @@ pub(crate) struct Spot {
     pub(crate) place: usize,
     pub(crate) whole: u64,
     pub ghost stands: { IsSpot (domains shape) place whole },
+}
+
+/// A code of a categorical field.
+#[derive(Clone, Copy)]
+pub(crate) struct CodeAt {
+    pub(crate) spot: Spot,
+    pub(crate) code: u8,
 }

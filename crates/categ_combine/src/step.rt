@@ -1,3 +1,7 @@
+//! The elimination of one categorical field from boxes: what they forbid of the other fields, whatever
+//! code the field has. In contracts, `HaveCodeField` says that the boxes are over one survey's fields, and
+//! the field is a categorical one. `ForShape` speaks of that survey's shape, and `IsDone` of the answer
+//! `Done`. `cover_count` and `cover_pairs` are the pairs of a cover and a box that are looked at.
 ghost use Rattle.std.specs.Prelude.{◌≡◌, ◌<◌, ◌≤◌, ◌*◌, ◌↔◌, ◌++◌, IfNone, IfOk, IfSome, OnOk, length, true};
 ghost use Rattle.std.specs.List.{filter, fold};
 ghost use Rattle.edit_line.specs.Boxes.{IsBox};
@@ -17,22 +21,23 @@ use crate::code_field::{set_at, spot_of};
 use crate::cover::{takes_part, with_code};
 use crate::covered::Covered;
 use crate::reduction::take_in;
-use crate::spot::Spot;
+use crate::spot::{CodeAt, Spot};
 use edit_line::{CodeBox, Shape};
 use foundation::{OutOfMemory, Sequence};
 use std::alloc::Global;
 
-// The covers that are left, and the pairs that were looked at.
+// The covers that are made of the boxes, and how many pairs of a cover and a box were looked at for them.
 #[derive(Debug, Drop)]
 struct Covers {
     boxes: Vec<BoxFrom>,
     pairs: u64,
 }
 
-/// The boxes without a categorical field (Fellegi and Holt 1976): those that are whole there, and for
-/// each choice of one other box for each code, that has it, what they have in common on the other fields.
-/// The origin of such a cover names its boxes, in the order of the codes. At most `most` pairs of a cover
-/// of the codes so far and a box are looked at: `Passed` comes exactly where there are more.
+/// The boxes without a categorical field (Fellegi and Holt 1976): those that are whole there, and the
+/// covers of the others. A cover is made of one box for each code, which has that code; it is what these
+/// have in common on the other fields. Its origin names them, in the order of the codes. Codes avoid what
+/// is left exactly where, with some code at the field, they avoid the given boxes. At most `most` pairs of
+/// a box and a cover of the codes so far are looked at; `Passed` comes exactly where there are more.
 pub fn cat_step(
     alloc: Global,
     boxes: &[BoxFrom],
@@ -63,8 +68,8 @@ pub fn cat_step(
     }
 }
 
-/// The boxes without a categorical field, as [`cat_step`] tells them, of boxes of which none lies inside another. Those that are
-/// whole at the field stay as they were, so they are not compared with one another.
+/// The boxes without a categorical field, as [`cat_step`] tells them, of boxes of which none lies inside
+/// another. Those that are whole at the field stay as they were, so they are not compared with one another.
 pub fn step_apart(
     alloc: Global,
     boxes: &[BoxFrom],
@@ -87,7 +92,8 @@ pub fn step_apart(
     }
 }
 
-// The boxes without the field of the shape that they are over. They may be known to lie apart: none inside another.
+// The boxes over this shape without the field, or `Passed`, as [`cat_step`] tells them. `apart` says that
+// none of the boxes lies inside another.
 fn step_over(
     alloc: Global,
     shape: Shape,
@@ -117,7 +123,8 @@ fn step_over(
     }
 }
 
-// The covers of the first codes, up to `size` of them, or none where more pairs than `most` would be looked at.
+// The covers of the codes below `size`, or None where more pairs than `most` would be looked at. The pairs
+// of a code are counted before they are looked at.
 fn covers_of(
     alloc: Global,
     boxes: &[BoxFrom],
@@ -135,12 +142,13 @@ fn covers_of(
     covers.push(first_cover(alloc, spot)?)?;
     let mut pairs = 0;
     for code in 0..size {
-        let more = pairs_for(boxes, covers.len(), spot, code);
+        let at = CodeAt { spot: *spot, code };
+        let more = pairs_for(boxes, covers.len(), &at);
         if more > u128::from(most - pairs) {
             return Ok(None);
         }
         pairs += more as u64;
-        covers = with_code(alloc, boxes, &covers, spot, code)?;
+        covers = with_code(alloc, boxes, &covers, &at)?;
     }
     Ok(Some(Covers {
         boxes: covers,
@@ -148,7 +156,7 @@ fn covers_of(
     }))
 }
 
-// The box of all codes, the cover of no code.
+// The cover of no code yet: the box of all codes, with no parts.
 fn first_cover(alloc: Global, spot: &Spot) -> Result<BoxFrom, OutOfMemory>
     ensures { IfOk result (λ cover. cover ≡ first_cover (domains spot.now.shape)) }
 {
@@ -159,24 +167,28 @@ fn first_cover(alloc: Global, spot: &Spot) -> Result<BoxFrom, OutOfMemory>
     })
 }
 
-// The number of pairs of this number of covers and the boxes that take part for the code.
-fn pairs_for(boxes: &[BoxFrom], covers: usize, spot: &Spot, code: u8) -> u128
-    requires { AreBoxesOver (domains spot.now.shape) boxes.now }
-    ensures { result ≡ covers * length (filter (λ b. takes_part spot.now.place spot.now.whole code b.code_box.sets) boxes.now) }
+// How many pairs one code takes: `covers`, the number of the covers so far, times the boxes that take part
+// for the code, as `parts_for` counts them.
+fn pairs_for(boxes: &[BoxFrom], covers: usize, at: &CodeAt) -> u128
+    requires { AreBoxesOver (domains at.now.spot.shape) boxes.now }
+    ensures { result ≡ covers * length (filter (λ b.
+        takes_part at.now.spot.place at.now.spot.whole at.now.code b.code_box.sets) boxes.now) }
 {
-    let parts = parts_for(boxes, spot, code);
+    let parts = parts_for(boxes, at);
     covers as u128 * parts as u128
 }
 
-// How many of the boxes take part for the code.
-fn parts_for(boxes: &[BoxFrom], spot: &Spot, code: u8) -> usize
-    requires { AreBoxesOver (domains spot.now.shape) boxes.now }
-    ensures { result ≡ length (filter (λ b. takes_part spot.now.place spot.now.whole code b.code_box.sets) boxes.now) }
+// How many of the boxes take part for the code: they have it at the spot's field, but not all codes.
+fn parts_for(boxes: &[BoxFrom], at: &CodeAt) -> usize
+    requires { AreBoxesOver (domains at.now.spot.shape) boxes.now }
+    ensures { result ≡ length (filter (λ b.
+        takes_part at.now.spot.place at.now.spot.whole at.now.code b.code_box.sets) boxes.now) }
 {
-    boxes.iter().filter(|b| takes_part(b, spot, code)).count()
+    boxes.iter().filter(|b| takes_part(b, at)).count()
 }
 
-// The boxes that are whole at the field, without those that lie inside another. Where the boxes lie apart, none does.
+// The boxes that are whole at the spot's field, without those that lie inside another. Where `apart` says
+// that the boxes lie apart, none does.
 fn unchanged(
     alloc: Global,
     boxes: &[BoxFrom],
@@ -196,7 +208,7 @@ fn unchanged(
     }
 }
 
-// The boxes that are whole at the field.
+// Copies of the boxes that are whole at the spot's field, each with its place as its origin.
 fn whole_ones(alloc: Global, boxes: &[BoxFrom], spot: &Spot) -> Result<Vec<BoxFrom>, OutOfMemory>
     requires { AreBoxesOver (domains spot.now.shape) boxes.now }
     ensures whole { IfOk result (λ whole. whole.items ≡ each_from (unchanged_one spot.now.place spot.now.whole) 0 boxes.now) }
@@ -209,7 +221,7 @@ fn whole_ones(alloc: Global, boxes: &[BoxFrom], spot: &Spot) -> Result<Vec<BoxFr
     Ok(whole)
 }
 
-// Appends the box at a place where it is whole at the field.
+// Appends a copy of the box `b`, at the place `i`, if it is whole at the spot's field.
 fn push_whole(
     alloc: Global,
     whole: &mut Vec<BoxFrom>,
@@ -232,7 +244,7 @@ fn push_whole(
     Ok(())
 }
 
-// The kept boxes with these, without those that lie inside another.
+// The kept boxes and these, without those that lie inside another.
 fn with_all(mut kept: Vec<BoxFrom>, boxes: Vec<BoxFrom>) -> Result<Vec<BoxFrom>, OutOfMemory>
     ensures { IfOk result (λ all. all.items ≡ fold with_from kept.items boxes.items) }
 {

@@ -1,4 +1,5 @@
-use Rattle.std.proofs.Common.{◌≡◌, ℕ, suc, ◌+◌, ◌<◌, ◌==◌, ◌||◌, Bool, true, false, cond, not, if◌then◌else◌, List, [], ◌∷◌, Some, None, length, nat_lt, refl, ap, ◌∙◌, arith}
+use Rattle.std.proofs.Common.{◌≡◌, ℕ, suc, ◌+◌, ◌<◌, ◌==◌, ◌||◌, Bool, true, false, cond, not, if◌then◌else◌, List, [], ◌∷◌, Some, None, length, nat_lt, refl}
+use Rattle.std.proofs.Common.{ap, ◌∙◌, arith}
 use Rattle.std.specs.List.{position, position_or_len}
 use Rattle.std.proofs.lemmas.Bool.Decides.{nat_tests}
 use Rattle.edit_line.specs.Shapes.{Domain, code_fields, has_field, place_in, whole_sets}
@@ -12,7 +13,8 @@ place-first : (fields : List ℕ) (f : ℕ) → position_or_len (λ i. i == f) f
 place-first [] f = refl
 place-first (i ∷ fields) f = by (i == f) (place-first fields f)
   where
-    by : (b : Bool) → position_or_len (λ i. i == f) fields ≡ place_in fields f → cond (not b) (1 + position_or_len (λ i. i == f) fields) 0 ≡ (if b then 0 else suc (place_in fields f))
+    by : (b : Bool) → position_or_len (λ i. i == f) fields ≡ place_in fields f → cond (not b) (1 + position_or_len (λ i. i == f) fields) 0
+        ≡ (if b then 0 else suc (place_in fields f))
     by true e = refl
     by false e = omega (arith, e)
 
@@ -26,14 +28,16 @@ place-before (i ∷ fields) f = by (i == f) (place-before fields f)
     below : (a b : ℕ) → nat_lt (suc a) (suc b) ≡ nat_lt a b
     below a b = grind (arith, nat_tests)
 
-    by : (b : Bool) → nat_lt (place_in fields f) (length fields) ≡ has_field fields f → nat_lt (if b then 0 else suc (place_in fields f)) (suc (length fields)) ≡ (b || has_field fields f)
+    by : (b : Bool) → nat_lt (place_in fields f) (length fields) ≡ has_field fields f → nat_lt (if b then 0 else suc (place_in fields f)) (suc (length fields))
+        ≡ (b || has_field fields f)
     by true e = first (length fields)
     by false e = below (place_in fields f) (length fields) ∙ e
 
 -- it is the place in the list, if it is there
 pub place-found : (fields : List ℕ) (f : ℕ) → position (λ i. i == f) fields ≡ place_there fields f
 place-found fields f =
-    ap (λ n. cond (nat_lt n (length fields)) (Some n) None) (place-first fields f) ∙ by (nat_lt (place_in fields f) (length fields)) (has_field fields f) (place-before fields f)
+    ap (λ n. cond (nat_lt n (length fields)) (Some n) None) (place-first fields f) ∙ by (nat_lt (place_in fields f) (length fields)) (has_field fields f)
+    (place-before fields f)
   where
     by : (a b : Bool) → a ≡ b → cond a (Some (place_in fields f)) None ≡ (if b then Some (place_in fields f) else None)
     by true true e = refl
@@ -51,4 +55,5 @@ there-has fields f place e = by (has_field fields f) e
 
 -- a categorical field has a set of codes
 pub place-wholes : (shape : List Domain) (f place : ℕ) → place_there (code_fields shape) f ≡ Some place → place < length (whole_sets shape)
-place-wholes shape f place e = let (there, is) = there-has (code_fields shape) f place e in omega (arith, is, place-within (code_fields shape) f there, length-wholes 0 shape)
+place-wholes shape f place e = let (there, is) = there-has (code_fields shape) f place e in
+    omega (arith, is, place-within (code_fields shape) f there, length-wholes 0 shape)

@@ -13,7 +13,8 @@ use Rattle.derivation.specs.declared.proved.Proved.TheVariants as proved
 module _ (m n g : ℤ) (s t : LineParts) (allowed : (may_multiply s.relation m && (may_multiply t.relation n && int_lt (pos 0) g)) ≡ true) where
   -- the divisor is above 0
   pub above-divisor : pos 0 <ℤ g
-  above-divisor = (is_enough-Decides Above g).0 (both_true (may_multiply t.relation n) (int_lt (pos 0) g) (both_true (may_multiply s.relation m) (may_multiply t.relation n && int_lt (pos 0) g) allowed).1).1
+  above-divisor = (is_enough-Decides Above g).0 (both_true (may_multiply t.relation n) (int_lt (pos 0) g)
+      (both_true (may_multiply s.relation m) (may_multiply t.relation n && int_lt (pos 0) g) allowed).1).1
 
   -- what is left to test, where the lines meet
   left-over : all_meet s.sets t.sets ≡ true → may_combine m n g s t ≡ (is_none (first_overflow 0 m n (numbers s) (numbers t)) && divides g (sum_of m n s t))
@@ -25,8 +26,11 @@ module _ (m n g : ℤ) (s t : LineParts) (allowed : (may_multiply s.relation m &
   -- a number out of range
   pub overflowing : all_meet s.sets t.sets ≡ true → (place : ℕ) → first_overflow 0 m n (numbers s) (numbers t) ≡ Some place → None ≡ combined_line m n g s t
   overflowing meet place out =
-      ap (λ b. only_if b (proved.Line (divided_by g (sum_of m n s t)))) (sym (left-over meet ∙ ap (λ (o : Option ℕ). is_none o && divides g (sum_of m n s t)) out))
+      ap (λ b. only_if b (proved.Line (divided_by g (sum_of m n s t))))
+      (sym (left-over meet ∙ ap (λ (o : Option ℕ). is_none o && divides g (sum_of m n s t)) out))
 
   -- and none
-  pub in-range : all_meet s.sets t.sets ≡ true → first_overflow 0 m n (numbers s) (numbers t) ≡ None → only_if (divides g (sum_of m n s t)) (proved.Line (divided_by g (sum_of m n s t))) ≡ combined_line m n g s t
-  in-range meet fits = ap (λ b. only_if b (proved.Line (divided_by g (sum_of m n s t)))) (sym (left-over meet ∙ ap (λ (o : Option ℕ). is_none o && divides g (sum_of m n s t)) fits))
+  pub in-range : all_meet s.sets t.sets ≡ true → first_overflow 0 m n (numbers s) (numbers t) ≡ None
+      → only_if (divides g (sum_of m n s t)) (proved.Line (divided_by g (sum_of m n s t))) ≡ combined_line m n g s t
+  in-range meet fits = ap (λ b. only_if b (proved.Line (divided_by g (sum_of m n s t))))
+      (sym (left-over meet ∙ ap (λ (o : Option ℕ). is_none o && divides g (sum_of m n s t)) fits))

@@ -18,10 +18,12 @@ second-fits : (k : Kind) → domain_of k ≡ Categorical 2 → IsOfKind k (Code 
 second-fits (kind.Number scale) e = absurd (cc)
 second-fits (kind.Code codes) e = let two : length codes ≡ 2 = cc in omega arith
 
-pub row-of-four : (fields : List Field) (values : List Value) (x : Fraction) → shape_of fields ≡ Numerical ∷ Numerical ∷ Categorical 2 ∷ Categorical 3 ∷ [] → values ≡ Number x ∷ Bad ∷ Code 1 ∷ Bad ∷ [] → IsRow fields values
+pub row-of-four : (fields : List Field) (values : List Value) (x : Fraction) → shape_of fields ≡ Numerical ∷ Numerical ∷ Categorical 2 ∷ Categorical 3 ∷ []
+    → values ≡ Number x ∷ Bad ∷ Code 1 ∷ Bad ∷ [] → IsRow fields values
 row-of-four [] values x shape are = absurd (cc)
 row-of-four (a ∷ []) values x shape are = absurd (cc)
 row-of-four (a ∷ b ∷ []) values x shape are = absurd (cc)
 row-of-four (a ∷ b ∷ c ∷ []) values x shape are = absurd (cc)
-row-of-four (a ∷ b ∷ c ∷ d ∷ []) values x shape are = subst (λ (vs : List Value). IsRow (a ∷ b ∷ c ∷ d ∷ []) vs) (sym are) (number-fits x a.kind (cc), (tt, (second-fits c.kind (cc), (tt, tt))))
+row-of-four (a ∷ b ∷ c ∷ d ∷ []) values x shape are = subst (λ (vs : List Value). IsRow (a ∷ b ∷ c ∷ d ∷ []) vs) (sym are)
+    (number-fits x a.kind (cc), (tt, (second-fits c.kind (cc), (tt, tt))))
 row-of-four (a ∷ b ∷ c ∷ d ∷ e ∷ fields) values x shape are = absurd (cc)

@@ -1,4 +1,5 @@
-use Rattle.std.proofs.Common.{◌≡◌, ℕ, suc, ◌+◌, ◌<◌, ◌⊎◌, inl, inr, List, [], ◌∷◌, ◌++◌, Option, Some, Result, Ok, drop, get_or, length, slice_get, sym, ap, subst, ◌∙◌, add-one}
+use Rattle.std.proofs.Common.{◌≡◌, ℕ, suc, ◌+◌, ◌<◌, ◌⊎◌, inl, inr, List, [], ◌∷◌, ◌++◌, Option, Some, Result, Ok, drop, get_or, length, slice_get, sym, ap}
+use Rattle.std.proofs.Common.{subst, ◌∙◌, add-one}
 use Rattle.std.proofs.Math.Seq.{drop-cons}
 use Rattle.std.specs.Option.{ok_or}
 use Rattle.foundation.specs.Results.{◌>>=◌}
@@ -29,13 +30,15 @@ module _ (p : Premises) (over : AreOver p.shape p.given) where
   line-known lines (step.Combine a m b n g) line known e =
       let (s, first, later) = was-some (slice_get lines a) _ line e in
       let (t, second, last) = was-some (slice_get lines b) _ line later in
-      combine-known p m n g s t (proved.Line line) (known s (in-get s lines a first)) (known t (in-get t lines b second)) (was-line (combined_line m n g s t) line last)
+      combine-known p m n g s t (proved.Line line) (known s (in-get s lines a first)) (known t (in-get t lines b second))
+      (was-line (combined_line m n g s t) line last)
   line-known lines (step.Fail a) line known e = absurd (cc)
   line-known lines (step.Cover field parts) line known e = absurd (cc)
   line-known lines (step.Fix field part) line known e = absurd (cc)
 
   -- and stands behind them
-  pub more-lines-known : (lines : List LineParts) (one : Step) (line : LineParts) → AllLinesKnown p lines → line_by p lines one ≡ Some line → AllLinesKnown p (lines ++ line ∷ [])
+  pub more-lines-known : (lines : List LineParts) (one : Step) (line : LineParts) → AllLinesKnown p lines → line_by p lines one ≡ Some line
+      → AllLinesKnown p (lines ++ line ∷ [])
   more-lines-known lines one line known e other there = either (in-either other lines (line ∷ []) there)
     where
       either : IsIn other lines ⊎ IsIn other (line ∷ []) → IsKnown p (proved.Line other)
@@ -51,17 +54,24 @@ pub known-over : (p : Premises) (lines : List LineParts) → AllLinesKnown p lin
 known-over p lines known = all-in (λ (line : LineParts). line.shape ≡ p.shape) lines (λ line there. (known line there).1)
 
 -- the loop over the steps
-module _ (p : Premises) (steps : List Step) (lines : List LineParts) (i : ℕ) (whole : Result (List LineParts) ℕ) (before : lines_from p lines (drop i steps) ≡ whole) where
+module _ (p : Premises) (steps : List Step) (lines : List LineParts) (i : ℕ) (whole : Result (List LineParts) ℕ)
+    (before : lines_from p lines (drop i steps) ≡ whole) where
   -- the step at the place is the next one
-  pub line-next : (one : Step) → i < length steps → one ≡ get_or steps i one → (ok_or (line_by p lines one) (length lines) >>= (λ x. lines_from p (lines ++ x ∷ []) (drop (suc i) steps))) ≡ whole
-  line-next one below is = ap (λ (s : Step). (ok_or (line_by p lines s) (length lines) >>= (λ x. lines_from p (lines ++ x ∷ []) (drop (suc i) steps)))) is ∙ sym (ap (λ (ss : List Step). lines_from p lines ss) (drop-cons steps i one below)) ∙ before
+  pub line-next : (one : Step) → i < length steps → one ≡ get_or steps i one
+      → (ok_or (line_by p lines one) (length lines) >>= (λ x. lines_from p (lines ++ x ∷ []) (drop (suc i) steps))) ≡ whole
+  line-next one below is = ap (λ (s : Step). (ok_or (line_by p lines s) (length lines) >>= (λ x. lines_from p (lines ++ x ∷ []) (drop (suc i) steps)))) is
+      ∙ sym (ap (λ (ss : List Step). lines_from p lines ss) (drop-cons steps i one below)) ∙ before
 
   -- a valid one goes on with its line
-  pub line-more : (one : Step) (line : LineParts) → i < length steps → one ≡ get_or steps i one → Some line ≡ line_by p lines one → lines_from p (lines ++ line ∷ []) (drop (i + 1) steps) ≡ whole
-  line-more one line below is some = rw (add-one) (ap (λ (o : Option LineParts). (ok_or o (length lines) >>= (λ x. lines_from p (lines ++ x ∷ []) (drop (suc i) steps)))) some ∙ line-next one below is)
+  pub line-more : (one : Step) (line : LineParts) → i < length steps → one ≡ get_or steps i one → Some line ≡ line_by p lines one
+      → lines_from p (lines ++ line ∷ []) (drop (i + 1) steps) ≡ whole
+  line-more one line below is some =
+      rw (add-one) (ap (λ (o : Option LineParts). (ok_or o (length lines) >>= (λ x. lines_from p (lines ++ x ∷ []) (drop (suc i) steps)))) some
+      ∙ line-next one below is)
 
 -- all lines of a table are known
-all-lines-known : (p : Premises) → AreOver p.shape p.given → (lines : List LineParts) (steps : List Step) (all : List LineParts) → AllLinesKnown p lines → lines_from p lines steps ≡ Ok all → AllLinesKnown p all
+all-lines-known : (p : Premises) → AreOver p.shape p.given → (lines : List LineParts) (steps : List Step) (all : List LineParts) → AllLinesKnown p lines
+    → lines_from p lines steps ≡ Ok all → AllLinesKnown p all
 all-lines-known p over lines [] all known e = let same : lines ≡ all = cc in subst (λ (ls : List LineParts). AllLinesKnown p ls) same known
 all-lines-known p over lines (one ∷ steps) all known e =
     let (line, gives, later) = first-line p lines one steps all e in

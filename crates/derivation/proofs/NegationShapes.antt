@@ -14,7 +14,8 @@ negation-over line m (inr there) = outside line.shape 0 line.sets (whole_sets li
     outside shape place (s ∷ sets) [] m there = absurd there
     outside shape place (s ∷ sets) (w ∷ wholes) m there = by (s == w) there (outside shape (suc place) sets wholes m)
       where
-        by : (b : Bool) → IsIn m (if b then never_outside shape (suc place) sets wholes else never shape (slice_set (whole_sets shape) place (bit_xor w s)) ∷ never_outside shape (suc place) sets wholes)
+        by : (b : Bool) → IsIn m (if b then never_outside shape (suc place) sets wholes else never shape (slice_set (whole_sets shape) place (bit_xor w s))
+            ∷ never_outside shape (suc place) sets wholes)
             → (IsIn m (never_outside shape (suc place) sets wholes) → m.shape ≡ shape) → m.shape ≡ shape
         by true there rest = rest there
         by false (inl is) rest = ap (λ (l : LineParts). l.shape) is

@@ -1,4 +1,5 @@
-use Rattle.std.proofs.Common.{◌≡◌, ℕ, zero, suc, ◌==◌, ◌&&◌, Bool, true, false, if◌then◌else◌, List, [], ◌∷◌, ◌++◌, Option, Some, None, Ok, length, slice_get, slice_index_or, ℤ, refl, sym, ap, ◌∙◌, subst, append_assoc, append-nil}
+use Rattle.std.proofs.Common.{◌≡◌, ℕ, zero, suc, ◌==◌, ◌&&◌, Bool, true, false, if◌then◌else◌, List, [], ◌∷◌, ◌++◌, Option, Some, None, Ok, length, slice_get}
+use Rattle.std.proofs.Common.{slice_index_or, ℤ, refl, sym, ap, ◌∙◌, subst, append_assoc, append-nil}
 use Rattle.std.specs.Option.{ok_or}
 use Rattle.foundation.specs.Results.{◌>>=◌}
 use Rattle.foundation.specs.Options.{◌>>?◌}
@@ -11,7 +12,8 @@ use Rattle.edit_line.specs.Shapes.{code_fields, has_field, whole_sets}
 use Rattle.derivation.specs.LineLists.{AreLinesOf, line_by}
 use Rattle.derivation.specs.Premises.{Premises}
 use Rattle.derivation.specs.SharedLines.{Tabled, as_tabled, last_of, place_in, tabled, tabled_from, with_tabled}
-use Rattle.derivation.specs.ValidSteps.{as_box, as_line, combined_line, common_from, covered_sets, fixed_sets, given_line, last_from, only_if, proved_by, proved_from}
+use Rattle.derivation.specs.ValidSteps.{as_box, as_line, combined_line, common_from, covered_sets, fixed_sets, given_line, last_from, only_if, proved_by}
+use Rattle.derivation.specs.ValidSteps.{proved_from}
 use Rattle.derivation.specs.declared.proved.Proved.{Proved}
 use Rattle.derivation.specs.declared.proved.Proved.TheVariants as proved
 use Rattle.derivation.specs.declared.step.Step.{Step}
@@ -46,13 +48,15 @@ placed-more lines more (x ∷ all) (place ∷ places) (is, are) = (placed-one li
 placed-more lines more [] (place ∷ places) are = absurd are
 placed-more lines more (x ∷ all) [] are = absurd are
 
-pub placed-end : (lines : List LineParts) (all : List Proved) (places : List ℕ) (x : Proved) (place : ℕ) → ArePlaced lines all places → IsPlaced lines x place → ArePlaced lines (all ++ x ∷ []) (places ++ place ∷ [])
+pub placed-end : (lines : List LineParts) (all : List Proved) (places : List ℕ) (x : Proved) (place : ℕ) → ArePlaced lines all places → IsPlaced lines x place
+    → ArePlaced lines (all ++ x ∷ []) (places ++ place ∷ [])
 placed-end lines [] [] x place are is = (is, tt)
 placed-end lines (y ∷ all) (other ∷ places) x place (first, are) is = (first, placed-end lines all places x place are is)
 placed-end lines [] (other ∷ places) x place are is = absurd are
 placed-end lines (y ∷ all) [] x place are is = absurd are
 
-pub placed-get : (lines : List LineParts) (all : List Proved) (places : List ℕ) (i : ℕ) (x : Proved) → ArePlaced lines all places → slice_get all i ≡ Some x → IsPlaced lines x (slice_index_or places i 0)
+pub placed-get : (lines : List LineParts) (all : List Proved) (places : List ℕ) (i : ℕ) (x : Proved) → ArePlaced lines all places → slice_get all i ≡ Some x
+    → IsPlaced lines x (slice_index_or places i 0)
 placed-get lines [] [] i x are e = absurd (cc)
 placed-get lines (y ∷ all) (place ∷ places) zero x (is, are) e = let same : y ≡ x = cc in subst (λ (z : Proved). IsPlaced lines z place) same is
 placed-get lines (y ∷ all) (place ∷ places) (suc i) x (is, are) e = placed-get lines all places i x are e
@@ -60,7 +64,8 @@ placed-get lines [] (place ∷ places) i x are e = absurd are
 placed-get lines (y ∷ all) [] i x are e = absurd are
 
 -- the last line stands at the last place
-pub placed-last : (lines : List LineParts) (all : List Proved) (places : List ℕ) (x : Proved) → ArePlaced lines all places → last_from None all ≡ Ok x → IsPlaced lines x (last_of places)
+pub placed-last : (lines : List LineParts) (all : List Proved) (places : List ℕ) (x : Proved) → ArePlaced lines all places → last_from None all ≡ Ok x
+    → IsPlaced lines x (last_of places)
 placed-last lines [] [] x are e = absurd (cc)
 placed-last lines (y ∷ []) (place ∷ []) x (is, are) e = let same : y ≡ x = cc in subst (λ (z : Proved). IsPlaced lines z place) same is
 placed-last lines (y ∷ z ∷ all) (place ∷ next ∷ places) x (is, are) e = placed-last lines (z ∷ all) (next ∷ places) x are e
@@ -76,13 +81,15 @@ module _ (p : Premises) where
   pub given-gives : (place : ℕ) (x : Proved) → given_line p place ≡ Some x → (line : LineParts) × (x ≡ proved.Line line)
   given-gives place x e = by (slice_index_or p.usable place false) (slice_get p.given place) e
     where
-      by : (b : Bool) (o : Option LineParts) → (if b then (o >>? (λ line. Some (proved.Line line))) else None) ≡ Some x → (line : LineParts) × (x ≡ proved.Line line)
+      by : (b : Bool) (o : Option LineParts) → (if b then (o >>? (λ line. Some (proved.Line line))) else None) ≡ Some x → (line : LineParts)
+          × (x ≡ proved.Line line)
       by false o h = absurd (cc)
       by true None h = absurd (cc)
       by true (Some line) h = (line, cc)
 
   -- a combination
-  pub combine-gives : (all : List Proved) (a b : ℕ) (m n g : ℤ) (x : Proved) → proved_by p all (step.Combine a m b n g) ≡ Some x → (line : LineParts) × (x ≡ proved.Line line)
+  pub combine-gives : (all : List Proved) (a b : ℕ) (m n g : ℤ) (x : Proved) → proved_by p all (step.Combine a m b n g) ≡ Some x → (line : LineParts)
+      × (x ≡ proved.Line line)
   combine-gives all a b m n g x e =
       let (s, first, later) = was-some (as_line (slice_get all a)) _ x e in
       let (t, second, last) = was-some (as_line (slice_get all b)) _ x later in
@@ -90,7 +97,8 @@ module _ (p : Premises) where
       (_, sym is)
 
   -- a line, from what was placed: then the step gives it in the table as well
-  tabled-gives : (lines : List LineParts) (all : List Proved) (places : List ℕ) (one renamed : Step) (x : Proved) → ArePlaced lines all places → as_tabled places one ≡ Some renamed → proved_by p all one ≡ Some x
+  tabled-gives : (lines : List LineParts) (all : List Proved) (places : List ℕ) (one renamed : Step) (x : Proved) → ArePlaced lines all places
+      → as_tabled places one ≡ Some renamed → proved_by p all one ≡ Some x
       → (line : LineParts) × (x ≡ proved.Line line) × (line_by p lines renamed ≡ Some line)
   tabled-gives lines all places (step.Given place) renamed x are named e =
       let same : step.Given place ≡ renamed = cc in
@@ -119,13 +127,15 @@ module _ (p : Premises) where
   box-of true made x e = (made, cc)
   box-of false made x e = absurd (cc)
 
-  pub others-give : (all : List Proved) (places : List ℕ) (one : Step) (x : Proved) → as_tabled places one ≡ None → proved_by p all one ≡ Some x → (code_box : BoxParts) × (x ≡ proved.Box code_box)
+  pub others-give : (all : List Proved) (places : List ℕ) (one : Step) (x : Proved) → as_tabled places one ≡ None → proved_by p all one ≡ Some x
+      → (code_box : BoxParts) × (x ≡ proved.Box code_box)
   others-give all places (step.Given place) x none e = absurd (cc)
   others-give all places (step.Combine a m b n g) x none e = absurd (cc)
   others-give all places (step.Fail a) x none e = let (line, found, rest) = was-some (as_line (slice_get all a)) _ x e in box-of _ _ x rest
   others-give all places (step.Cover field parts) x none e = covers (has_field (code_fields p.shape) field && (length parts == size_of p.shape field)) e
     where
-      covers : (b : Bool) → (if b then (common_from all (place_of p.shape field) 0 parts (whole_sets p.shape) >>? (λ common. covered_sets p.shape field common)) else None) ≡ Some x
+      covers : (b : Bool) → (if b then (common_from all (place_of p.shape field) 0 parts (whole_sets p.shape) >>? (λ common. covered_sets p.shape field common))
+          else None) ≡ Some x
           → (code_box : BoxParts) × (x ≡ proved.Box code_box)
       covers false h = absurd (cc)
       covers true h = let (common, made, rest) = was-some (common_from all (place_of p.shape field) 0 parts (whole_sets p.shape)) _ x h in box-of _ _ x rest
@@ -139,8 +149,10 @@ module _ (p : Premises) where
   -- ---- steps that are put into a table
 
   -- one step more
-  step-tabled : (t : Tabled) (lines : List LineParts) (all : List Proved) (one : Step) (x : Proved) → AreLinesOf p t.table lines → ArePlaced lines all t.places → proved_by p all one ≡ Some x
-      → (more : List LineParts) × AreLinesOf p (with_tabled t (as_tabled t.places one)).table (lines ++ more) × ArePlaced (lines ++ more) (all ++ x ∷ []) (with_tabled t (as_tabled t.places one)).places
+  step-tabled : (t : Tabled) (lines : List LineParts) (all : List Proved) (one : Step) (x : Proved) → AreLinesOf p t.table lines → ArePlaced lines all t.places
+      → proved_by p all one ≡ Some x
+      → (more : List LineParts) × AreLinesOf p (with_tabled t (as_tabled t.places one)).table (lines ++ more)
+      × ArePlaced (lines ++ more) (all ++ x ∷ []) (with_tabled t (as_tabled t.places one)).places
   step-tabled t lines all one x lines_are are e = by (as_tabled t.places one) refl
     where
       by : (o : Option Step) → as_tabled t.places one ≡ o
@@ -153,11 +165,16 @@ module _ (p : Premises) where
           )
       by (Some renamed) named =
           let (line, is, gives) = tabled-gives lines all t.places one renamed x are named e in
-          let (more, more_are, there) = put-line p t.table lines renamed line lines_are gives in
-          (more, more_are, placed-end (lines ++ more) all t.places x (place_in t.table renamed) (placed-more lines more all t.places are) (subst (λ (y : Proved). IsPlaced (lines ++ more) y (place_in t.table renamed)) (sym is) there))
+          let (more, more_are, there) = put-line p t.table lines renamed line lines_are gives in (
+            more,
+            more_are,
+            placed-end (lines ++ more) all t.places x (place_in t.table renamed) (placed-more lines more all t.places are)
+                (subst (λ (y : Proved). IsPlaced (lines ++ more) y (place_in t.table renamed)) (sym is) there),
+          )
 
   -- a valid step is one that proves something
-  pub first-proved : (all : List Proved) (one : Step) (steps : List Step) (whole : List Proved) → proved_from p all (one ∷ steps) ≡ Ok whole → (x : Proved) × (proved_by p all one ≡ Some x) × (proved_from p (all ++ x ∷ []) steps ≡ Ok whole)
+  pub first-proved : (all : List Proved) (one : Step) (steps : List Step) (whole : List Proved) → proved_from p all (one ∷ steps) ≡ Ok whole → (x : Proved)
+      × (proved_by p all one ≡ Some x) × (proved_from p (all ++ x ∷ []) steps ≡ Ok whole)
   first-proved all one steps whole e = by (proved_by p all one) refl e
     where
       by : (o : Option Proved) → proved_by p all one ≡ o → (ok_or o (length all) >>= (λ x. proved_from p (all ++ x ∷ []) steps)) ≡ Ok whole
@@ -166,15 +183,21 @@ module _ (p : Premises) where
       by (Some x) is h = (x, is, h)
 
   -- all of them: the table has their lines, behind those that it had
-  steps-tabled : (t : Tabled) (lines : List LineParts) (all : List Proved) (steps : List Step) (whole : List Proved) → AreLinesOf p t.table lines → ArePlaced lines all t.places → proved_from p all steps ≡ Ok whole
+  steps-tabled : (t : Tabled) (lines : List LineParts) (all : List Proved) (steps : List Step) (whole : List Proved) → AreLinesOf p t.table lines
+      → ArePlaced lines all t.places → proved_from p all steps ≡ Ok whole
       → (more : List LineParts) × AreLinesOf p (tabled_from t steps).table (lines ++ more) × ArePlaced (lines ++ more) whole (tabled_from t steps).places
   steps-tabled t lines all [] whole lines_are are e =
-      let same : all ≡ whole = cc in
-      ([], lines_are ∙ ap (λ (ls : List LineParts). Ok ls) (sym (append-nil lines)), subst (λ (xs : List Proved). ArePlaced (lines ++ []) xs t.places) same (placed-more lines [] all t.places are))
+      let same : all ≡ whole = cc in (
+        [],
+        lines_are ∙ ap (λ (ls : List LineParts). Ok ls) (sym (append-nil lines)),
+        subst (λ (xs : List Proved). ArePlaced (lines ++ []) xs t.places) same
+            (placed-more lines [] all t.places are),
+      )
   steps-tabled t lines all (one ∷ steps) whole lines_are are e =
       let (x, is, later) = first-proved all one steps whole e in
       let (more, more_lines, more_are) = step-tabled t lines all one x lines_are are is in
-      let (rest, all_lines, all_are) = steps-tabled (with_tabled t (as_tabled t.places one)) (lines ++ more) (all ++ x ∷ []) steps whole more_lines more_are later in
+      let (rest, all_lines, all_are) = steps-tabled (with_tabled t (as_tabled t.places one)) (lines ++ more) (all ++ x ∷ []) steps whole more_lines more_are
+      later in
       let same : (lines ++ more) ++ rest ≡ lines ++ (more ++ rest) = rw append_assoc refl in (
         more ++ rest,
         subst (λ (ls : List LineParts). AreLinesOf p (tabled_from (with_tabled t (as_tabled t.places one)) steps).table ls) same all_lines,
@@ -182,6 +205,7 @@ module _ (p : Premises) where
       )
 
   -- a list of valid steps that is put into a table
-  pub list-tabled : (table : List Step) (lines : List LineParts) (steps : List Step) (whole : List Proved) → AreLinesOf p table lines → proved_from p [] steps ≡ Ok whole
+  pub list-tabled : (table : List Step) (lines : List LineParts) (steps : List Step) (whole : List Proved) → AreLinesOf p table lines → proved_from p [] steps
+      ≡ Ok whole
       → (more : List LineParts) × AreLinesOf p (tabled table steps).table (lines ++ more) × ArePlaced (lines ++ more) whole (tabled table steps).places
   list-tabled table lines steps whole lines_are e = steps-tabled (record { table = table; places = [] }) lines [] steps whole lines_are tt e

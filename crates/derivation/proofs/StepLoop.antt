@@ -1,4 +1,5 @@
-use Rattle.std.proofs.Common.{◌≡◌, ℕ, suc, ◌+◌, ◌<◌, List, [], ◌∷◌, ◌++◌, Option, Some, None, Result, Ok, drop, get_or, length, map, refl, sym, ap, ◌∙◌, inl, inr, add-one, arith}
+use Rattle.std.proofs.Common.{◌≡◌, ℕ, suc, ◌+◌, ◌<◌, List, [], ◌∷◌, ◌++◌, Option, Some, None, Result, Ok, drop, get_or, length, map, refl, sym, ap, ◌∙◌, inl}
+use Rattle.std.proofs.Common.{inr, add-one, arith}
 use Rattle.std.proofs.Math.Seq.{drop-cons}
 use Rattle.std.proofs.lemmas.List.Elements.{All-cons}
 use Rattle.std.specs.Option.{ok_or}
@@ -14,14 +15,20 @@ use Rattle.derivation.proofs.Soundness.{AllKnown}
 
 -- The loop over the steps.
 
-module _ (p : Premises) (steps : List Step) (earlier : List Proved) (i : ℕ) (whole : Result (List Proved) ℕ) (before : proved_from p earlier (drop i steps) ≡ whole) where
+module _ (p : Premises) (steps : List Step) (earlier : List Proved) (i : ℕ) (whole : Result (List Proved) ℕ)
+    (before : proved_from p earlier (drop i steps) ≡ whole) where
   -- the next step
-  next : (one : Step) → i < length steps → one ≡ get_or steps i one → (ok_or (proved_by p earlier one) (length earlier) >>= (λ x. proved_from p (earlier ++ x ∷ []) (drop (suc i) steps))) ≡ whole
-  next one below is = ap (λ (s : Step). (ok_or (proved_by p earlier s) (length earlier) >>= (λ x. proved_from p (earlier ++ x ∷ []) (drop (suc i) steps)))) is ∙ sym (ap (λ (ss : List Step). proved_from p earlier ss) (drop-cons steps i one below)) ∙ before
+  next : (one : Step) → i < length steps → one ≡ get_or steps i one
+      → (ok_or (proved_by p earlier one) (length earlier) >>= (λ x. proved_from p (earlier ++ x ∷ []) (drop (suc i) steps))) ≡ whole
+  next one below is = ap (λ (s : Step). (ok_or (proved_by p earlier s) (length earlier) >>= (λ x. proved_from p (earlier ++ x ∷ []) (drop (suc i) steps)))) is
+      ∙ sym (ap (λ (ss : List Step). proved_from p earlier ss) (drop-cons steps i one below)) ∙ before
 
   -- a valid one goes on with what it proves
-  pub valid-more : (one : Step) (x : Proved) → i < length steps → one ≡ get_or steps i one → Some x ≡ proved_by p earlier one → proved_from p (earlier ++ x ∷ []) (drop (i + 1) steps) ≡ whole
-  valid-more one x below is some = rw (add-one) (ap (λ (o : Option Proved). (ok_or o (length earlier) >>= (λ x. proved_from p (earlier ++ x ∷ []) (drop (suc i) steps)))) some ∙ next one below is)
+  pub valid-more : (one : Step) (x : Proved) → i < length steps → one ≡ get_or steps i one → Some x ≡ proved_by p earlier one
+      → proved_from p (earlier ++ x ∷ []) (drop (i + 1) steps) ≡ whole
+  valid-more one x below is some =
+      rw (add-one) (ap (λ (o : Option Proved). (ok_or o (length earlier) >>= (λ x. proved_from p (earlier ++ x ∷ []) (drop (suc i) steps)))) some
+      ∙ next one below is)
 
 -- the last of what was proved
 pub last-push : (before : Option Proved) (all : List Proved) (x : Proved) → last_from before (all ++ x ∷ []) ≡ Ok x
@@ -33,4 +40,5 @@ last-push (Some y) (z ∷ all) x = last-push (Some z) all x
 -- all that is known is over the fields
 pub over-known : (p : Premises) (known : List Known) → AllKnown p (map meaning known) → AllOver p.shape known
 over-known p [] all = λ k d below. absurd (omega arith)
-over-known p (one ∷ known) all = All-cons (λ k. IsOver p.shape (meaning k)) one known (all (meaning one) (inl refl)).1 (over-known p known (λ x there. all x (inr there)))
+over-known p (one ∷ known) all = All-cons (λ k. IsOver p.shape (meaning k)) one known (all (meaning one) (inl refl)).1
+    (over-known p known (λ x there. all x (inr there)))

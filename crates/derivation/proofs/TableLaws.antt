@@ -1,4 +1,5 @@
-use Rattle.std.proofs.Common.{◌≡◌, ℕ, zero, suc, ◌+◌, ◌==◌, Bool, true, false, if◌then◌else◌, List, [], ◌∷◌, ◌++◌, Option, Some, None, Ok, length, length-append, slice_get, refl, sym, ap, ◌∙◌, subst, arith}
+use Rattle.std.proofs.Common.{◌≡◌, ℕ, zero, suc, ◌+◌, ◌==◌, Bool, true, false, if◌then◌else◌, List, [], ◌∷◌, ◌++◌, Option, Some, None, Ok, length}
+use Rattle.std.proofs.Common.{length-append, slice_get, refl, sym, ap, ◌∙◌, subst, arith}
 use Rattle.std.proofs.lemmas.Bool.Decides.{Decides-eqb, Decides-int_eq}
 use Rattle.std.proofs.Common.{append-nil, append_assoc}
 use Rattle.std.specs.List.{list_any, position_or_len}
@@ -62,11 +63,13 @@ is_same-is (step.Cover field parts) other e = absurd (cc)
 is_same-is (step.Fix field part) other e = absurd (cc)
 
 -- the first element that passes a test, where one does
-pub first-passes : {X : Type 0} (test : X → Bool) (xs : List X) → list_any test xs ≡ true → (x : X) × (slice_get xs (position_or_len test xs) ≡ Some x) × (test x ≡ true)
+pub first-passes : {X : Type 0} (test : X → Bool) (xs : List X) → list_any test xs ≡ true → (x : X) × (slice_get xs (position_or_len test xs) ≡ Some x)
+    × (test x ≡ true)
 first-passes test [] e = absurd (cc)
 first-passes {X} test (y ∷ xs) e = by (test y) refl (first-passes test xs) e
   where
-    by : (b : Bool) → test y ≡ b → (list_any test xs ≡ true → (x : X) × (slice_get xs (position_or_len test xs) ≡ Some x) × (test x ≡ true)) → list_any test (y ∷ xs) ≡ true
+    by : (b : Bool) → test y ≡ b → (list_any test xs ≡ true → (x : X) × (slice_get xs (position_or_len test xs) ≡ Some x) × (test x ≡ true))
+        → list_any test (y ∷ xs) ≡ true
         → (x : X) × (slice_get (y ∷ xs) (position_or_len test (y ∷ xs)) ≡ Some x) × (test x ≡ true)
     by true is later h = (y, rw is refl, is)
     by false is later h = let (x, there, passes) = later (rw is at h) in
@@ -78,7 +81,8 @@ pub none-passes : {X : Type 0} (test : X → Bool) (xs : List X) → list_any te
 none-passes test [] e = refl
 none-passes {X} test (y ∷ xs) e = by (test y) refl (none-passes test xs) e
   where
-    by : (b : Bool) → test y ≡ b → (list_any test xs ≡ false → position_or_len test xs ≡ length xs) → list_any test (y ∷ xs) ≡ false → position_or_len test (y ∷ xs) ≡ length (y ∷ xs)
+    by : (b : Bool) → test y ≡ b → (list_any test xs ≡ false → position_or_len test xs ≡ length xs) → list_any test (y ∷ xs) ≡ false
+        → position_or_len test (y ∷ xs) ≡ length (y ∷ xs)
     by true is later h = let no_one : true ≡ false = rw is at h in absurd (cc)
     by false is later h = rw is (omega (arith, later (rw is at h)))
 
@@ -100,7 +104,8 @@ module _ (p : Premises) where
 
   -- a step after others, of which all give lines
   module _ (lines : List LineParts) (one : Step) (steps : List Step) where
-    pub first-line : (all : List LineParts) → lines_from p lines (one ∷ steps) ≡ Ok all → (line : LineParts) × (line_by p lines one ≡ Some line) × (lines_from p (lines ++ line ∷ []) steps ≡ Ok all)
+    pub first-line : (all : List LineParts) → lines_from p lines (one ∷ steps) ≡ Ok all → (line : LineParts) × (line_by p lines one ≡ Some line)
+        × (lines_from p (lines ++ line ∷ []) steps ≡ Ok all)
     first-line all e = by (line_by p lines one) refl e
       where
         by : (o : Option LineParts) → line_by p lines one ≡ o → (ok_or o (length lines) >>= (λ x. lines_from p (lines ++ x ∷ []) steps)) ≡ Ok all
@@ -112,7 +117,8 @@ module _ (p : Premises) where
     with-first line e = ap (λ (o : Option LineParts). ok_or o (length lines) >>= (λ x. lines_from p (lines ++ x ∷ []) steps)) e
 
   -- the lines behind those that there were
-  pub lines-behind : (lines : List LineParts) (steps : List Step) (all : List LineParts) → lines_from p lines steps ≡ Ok all → (more : List LineParts) × (all ≡ lines ++ more) × (length more ≡ length steps)
+  pub lines-behind : (lines : List LineParts) (steps : List Step) (all : List LineParts) → lines_from p lines steps ≡ Ok all → (more : List LineParts)
+      × (all ≡ lines ++ more) × (length more ≡ length steps)
   lines-behind lines [] all e = let same : lines ≡ all = cc in ([], sym same ∙ sym (append-nil lines), refl)
   lines-behind lines (one ∷ steps) all e =
       let (line, gives, later) = first-line lines one steps all e in
@@ -124,7 +130,8 @@ module _ (p : Premises) where
   length-lines steps lines are = let (more, is, long) = lines-behind [] steps lines are in ap length is ∙ long
 
   -- one step more at the end
-  pub lines-at-end : (lines : List LineParts) (steps : List Step) (all : List LineParts) (one : Step) (line : LineParts) → lines_from p lines steps ≡ Ok all → line_by p all one ≡ Some line → lines_from p lines (steps ++ one ∷ []) ≡ Ok (all ++ line ∷ [])
+  pub lines-at-end : (lines : List LineParts) (steps : List Step) (all : List LineParts) (one : Step) (line : LineParts) → lines_from p lines steps ≡ Ok all
+      → line_by p all one ≡ Some line → lines_from p lines (steps ++ one ∷ []) ≡ Ok (all ++ line ∷ [])
   lines-at-end lines [] all one line e gives =
       let same : lines ≡ all = cc in
       subst (λ (ls : List LineParts). lines_from p ls (one ∷ []) ≡ Ok (all ++ line ∷ [])) (sym same) (with-first all one [] line gives)
@@ -133,7 +140,8 @@ module _ (p : Premises) where
       with-first lines first (steps ++ one ∷ []) own is ∙ lines-at-end (lines ++ own ∷ []) steps all one line later gives
 
   -- the line at a place is that of the step there, from all of them
-  line-there : (lines : List LineParts) (steps : List Step) (all : List LineParts) (k : ℕ) (one : Step) → lines_from p lines steps ≡ Ok all → slice_get steps k ≡ Some one
+  line-there : (lines : List LineParts) (steps : List Step) (all : List LineParts) (k : ℕ) (one : Step) → lines_from p lines steps ≡ Ok all → slice_get steps k
+      ≡ Some one
       → (line : LineParts) × (slice_get all (length lines + k) ≡ Some line) × (line_by p all one ≡ Some line)
   line-there lines [] all k one e at = absurd (cc)
   line-there lines (first ∷ steps) all zero one e at =
@@ -159,23 +167,30 @@ module _ (p : Premises) where
   put-line table lines one line are gives = by (list_any (is_same one) table) refl
     where
       by : (b : Bool) → list_any (is_same one) table ≡ b
-          → (more : List LineParts) × AreLinesOf p (if b then table else table ++ one ∷ []) (lines ++ more) × (slice_get (lines ++ more) (place_in table one) ≡ Some line)
+          → (more : List LineParts) × AreLinesOf p (if b then table else table ++ one ∷ []) (lines ++ more)
+          × (slice_get (lines ++ more) (place_in table one) ≡ Some line)
       by true is =
           let (other, there, same) = first-passes (is_same one) table is in
           let equal = is_same-is one other same in
           let (own, at, made) = line-there [] table lines (place_in table one) other are there in
           let own_is : line ≡ own = cc (ap (line_by p lines) equal, gives, made) in
-          let place : 0 + place_in table one ≡ place_in table one = omega arith in
-          ([], are ∙ ap (λ (ls : List LineParts). Ok ls) (sym (append-nil lines)), ap (λ (ls : List LineParts). slice_get ls (place_in table one)) (append-nil lines) ∙ ap (slice_get lines) (sym place) ∙ at ∙ ap (λ (l : LineParts). Some l) (sym own_is))
+          let place : 0 + place_in table one ≡ place_in table one = omega arith in (
+            [],
+            are ∙ ap (λ (ls : List LineParts). Ok ls) (sym (append-nil lines)),
+            ap (λ (ls : List LineParts). slice_get ls (place_in table one))
+                (append-nil lines) ∙ ap (slice_get lines) (sym place) ∙ at ∙ ap (λ (l : LineParts). Some l) (sym own_is),
+          )
       by false is =
           let place : place_in table one ≡ length lines = none-passes (is_same one) table is ∙ sym (length-lines table lines are) in
           (line ∷ [], lines-at-end [] table lines one line are gives, ap (slice_get (lines ++ line ∷ [])) place ∙ get-end lines line)
 
 -- the lines of steps do not depend on the record
-pub same-lines : (p : Premises) (row : List Value) (kept : ℕ) (lines : List LineParts) (steps : List Step) → lines_from (premises_of p.shape p.given p.usable row kept) lines steps ≡ lines_from p lines steps
+pub same-lines : (p : Premises) (row : List Value) (kept : ℕ) (lines : List LineParts) (steps : List Step)
+    → lines_from (premises_of p.shape p.given p.usable row kept) lines steps ≡ lines_from p lines steps
 same-lines p row kept lines [] = refl
 same-lines p row kept lines (one ∷ steps) =
-    ap (λ (o : Option LineParts). ok_or o (length lines) >>= (λ line. lines_from (premises_of p.shape p.given p.usable row kept) (lines ++ line ∷ []) steps)) (same one)
+    ap (λ (o : Option LineParts). ok_or o (length lines) >>= (λ line. lines_from (premises_of p.shape p.given p.usable row kept) (lines ++ line ∷ []) steps))
+    (same one)
     ∙ later (line_by p lines one) (λ line. same-lines p row kept (lines ++ line ∷ []) steps)
   where
     same : (s : Step) → line_by (premises_of p.shape p.given p.usable row kept) lines s ≡ line_by p lines s
@@ -185,7 +200,9 @@ same-lines p row kept lines (one ∷ steps) =
     same (step.Cover field parts) = refl
     same (step.Fix field part) = refl
 
-    later : (o : Option LineParts) → ((line : LineParts) → lines_from (premises_of p.shape p.given p.usable row kept) (lines ++ line ∷ []) steps ≡ lines_from p (lines ++ line ∷ []) steps)
-        → (ok_or o (length lines) >>= (λ line. lines_from (premises_of p.shape p.given p.usable row kept) (lines ++ line ∷ []) steps)) ≡ (ok_or o (length lines) >>= (λ line. lines_from p (lines ++ line ∷ []) steps))
+    later : (o : Option LineParts) → ((line : LineParts) → lines_from (premises_of p.shape p.given p.usable row kept) (lines ++ line ∷ []) steps
+        ≡ lines_from p (lines ++ line ∷ []) steps)
+        → (ok_or o (length lines) >>= (λ line. lines_from (premises_of p.shape p.given p.usable row kept) (lines ++ line ∷ []) steps))
+        ≡ (ok_or o (length lines) >>= (λ line. lines_from p (lines ++ line ∷ []) steps))
     later None each = refl
     later (Some line) each = each line

@@ -11,9 +11,16 @@ use Rattle.edit_line.proofs.WholeSets.{AreSets-whole, AreSets-wide, AreWithin-co
 -- Boxes that are made whole at the place of a categorical field.
 
 -- a place among the whole sets is one of each box
-pub within-box : (shape own : List Domain) (place : ℕ) (sets read : List ℕ) → place < length (whole_sets shape) → own ≡ shape → AreSets sets (whole_sets own) → read ≡ sets → place < length read
+pub within-box : (shape own : List Domain) (place : ℕ) (sets read : List ℕ) → place < length (whole_sets shape) → own ≡ shape → AreSets sets (whole_sets own)
+    → read ≡ sets → place < length read
 within-box shape own place sets read below over are is =
-    omega (arith, below, AreWithin-length sets (whole_sets own) (AreSets-wide sets (whole_sets own) are), ap length is, ap (λ (s : List Domain). length (whole_sets s)) over)
+    omega (
+      arith,
+      below,
+      AreWithin-length sets (whole_sets own) (AreSets-wide sets (whole_sets own) are),
+      ap length is,
+      ap (λ (s : List Domain). length (whole_sets s)) over,
+    )
 
 -- sets that are within the whole sets are as many as those of a box
 pub as-many : (wholes common sets : List ℕ) → AreWithin common wholes → AreSets sets wholes → length sets ≡ length common
@@ -25,7 +32,8 @@ pub still-within : (wholes common sets next : List ℕ) → AreWithin common who
 still-within wholes common sets next within are next_is =
     subst (λ (ns : List ℕ). AreWithin ns wholes) (sym next_is) (AreWithin-common common sets wholes within (AreSets-wide sets wholes are))
 
-module _ (shape : List Domain) (f place : ℕ) (wholes : List ℕ) (at : place_there (code_fields shape) f ≡ Some place) (wholes_are : wholes ≡ whole_sets shape) where
+module _ (shape : List Domain) (f place : ℕ) (wholes : List ℕ) (at : place_there (code_fields shape) f ≡ Some place)
+    (wholes_are : wholes ≡ whole_sets shape) where
   -- the place is within the sets
   pub within-wholes : place < length wholes
   within-wholes = omega (arith, place-wholes shape f place at, ap length wholes_are)
@@ -34,7 +42,8 @@ module _ (shape : List Domain) (f place : ℕ) (wholes : List ℕ) (at : place_t
   within-sets sets within = omega (arith, place-wholes shape f place at, AreWithin-length sets (whole_sets shape) within)
 
   -- a box of its own, made whole
-  pub whole-fits : (own : List Domain) (sets read : List ℕ) → own ≡ shape → AreSets sets (whole_sets own) → read ≡ sets → AreSets (slice_set read place (slice_index_or wholes place 0)) (whole_sets shape)
+  pub whole-fits : (own : List Domain) (sets read : List ℕ) → own ≡ shape → AreSets sets (whole_sets own) → read ≡ sets
+      → AreSets (slice_set read place (slice_index_or wholes place 0)) (whole_sets shape)
   whole-fits own sets read over are is =
       subst (λ (rs : List ℕ). AreSets (slice_set rs place (slice_index_or wholes place 0)) (whole_sets shape)) (sym is) (
       subst (λ (ws : List ℕ). AreSets (slice_set sets place (slice_index_or ws place 0)) (whole_sets shape)) (sym wholes_are)
@@ -42,7 +51,9 @@ module _ (shape : List Domain) (f place : ℕ) (wholes : List ℕ) (at : place_t
       )
 
   -- what the parts have in common is a box, where it has codes
-  pub common-fits : (common : List ℕ) → AreWithin common (whole_sets shape) → none_is_empty (slice_set common place (slice_index_or wholes place 0)) ≡ true → AreSets (slice_set common place (slice_index_or wholes place 0)) (whole_sets shape)
+  pub common-fits : (common : List ℕ) → AreWithin common (whole_sets shape) → none_is_empty (slice_set common place (slice_index_or wholes place 0)) ≡ true
+      → AreSets (slice_set common place (slice_index_or wholes place 0)) (whole_sets shape)
   common-fits common within full =
       AreSets-within (slice_set common place (slice_index_or wholes place 0)) (whole_sets shape) full
-      (subst (λ (ws : List ℕ). AreWithin (slice_set common place (slice_index_or ws place 0)) (whole_sets shape)) (sym wholes_are) (AreWithin-whole common (whole_sets shape) place within))
+      (subst (λ (ws : List ℕ). AreWithin (slice_set common place (slice_index_or ws place 0)) (whole_sets shape)) (sym wholes_are)
+      (AreWithin-whole common (whole_sets shape) place within))

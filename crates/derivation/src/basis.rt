@@ -1,7 +1,9 @@
+//! What the steps of one derivation may build on, handed down as one value.
 use edit_line::Line;
 use edit_model::{FieldSet, Row, Survey};
 
-/// What the steps may build on.
+/// What the steps may build on: the given lines, which of them are usable, place by place, and the record's
+/// values at the kept fields.
 #[derive(Clone, Copy)]
 pub(crate) struct Basis<'a> {
     pub(crate) survey: &'a Survey,

@@ -1,3 +1,7 @@
+//! The check of a derivation, step by step, and what its last step proves. In contracts, `AreValidSteps`
+//! says that all steps are valid and what the last proves; `IsFirstInvalid` names the first that is not.
+//! `IsShown` says what such a proof shows, and `premises_over` has what steps may build on. `IsBasis` says
+//! that a basis's parts fit.
 ghost use Rattle.std.specs.Prelude.{◌≡◌, ◌<◌, ◌⊎◌, Err, IfOk, Ok, [], length, map, ℕ};
 ghost use Rattle.edit_model.specs.Rows.{IsRow};
 ghost use Rattle.edit_line.specs.Lines.{AreOver};
@@ -25,11 +29,13 @@ use foundation::OutOfMemory;
 use std::alloc::Global;
 
 /// What the last of the steps proves, exactly where there is one and each is valid. A step may name the
-/// given lines, which are over the survey's fields, where they are usable, and what earlier steps proved.
-/// The kept fields of the record have values. Bad comes with the place of the first step that is not
-/// valid, and with 0 where there are no steps. What is proved is shown: a line follows from the usable
-/// lines, and no point at which these hold and which has the record's values at the kept fields has its
-/// codes in a box. The time for each step is in proportion to its own size.
+/// usable of the given lines, which are over the survey's fields, and what earlier steps proved. The
+/// record has values at the `kept` fields. Bad names the first step that is not valid, and place 0 where
+/// there are no steps.
+///
+/// A line that is proved follows from the usable lines. A box that is proved forbids its codes to each
+/// point that meets these lines and has the record's values at the kept fields. Each step takes time in
+/// proportion to its own size.
 pub fn check_steps(
     alloc: Global,
     survey: &Survey,
@@ -63,7 +69,7 @@ pub fn check_steps(
     }
 }
 
-// The last of what was proved, or place 0 where there is none.
+// What the last step proved, or Bad at place 0 where there is no step.
 fn last_known(alloc: Global, mut known: Vec<Known>) -> Result<Proved, StepsFault>
     ensures proved { IfOk result (λ proved. last_proved (Ok (map meaning known.entry.items)) ≡ Ok proved) }
     ensures bad { (place : ℕ) → result ≡ Err (Bad place) → last_proved (Ok (map meaning known.entry.items)) ≡ Err place }
@@ -74,7 +80,7 @@ fn last_known(alloc: Global, mut known: Vec<Known>) -> Result<Proved, StepsFault
     }
 }
 
-// What the steps prove, or the place of the first that is not valid.
+// What each of the steps proves, or Bad with the place of the first that is not valid.
 fn known_of<'a>(
     alloc: Global,
     basis: &Basis<'a>,
@@ -96,7 +102,7 @@ fn known_of<'a>(
     Ok(known)
 }
 
-// What the step proves from what the earlier ones did, if it is valid.
+// What the step proves from what the earlier steps did, which `known` has; None where it is not valid.
 fn made_by<'a>(
     alloc: Global,
     basis: &Basis<'a>,

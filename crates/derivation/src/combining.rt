@@ -1,3 +1,6 @@
+//! The step that combines two lines: it adds up multiples of both and divides the sum. In contracts,
+//! `meant` has what a step proved, and `lined` a line as what was proved, None where there is none.
+//! `proved_by` has what a step proves by the definition.
 ghost use Rattle.std.specs.Prelude.{◌≡◌, ◌&&◌, ◌<ℤ◌, IfOk, int_lt, int_rem, map, pos};
 ghost use Rattle.std.specs.List.{list_all};
 ghost use Rattle.std.specs.Ordering.{int_eq};
@@ -23,9 +26,9 @@ pub(crate) struct Multipliers {
     pub(crate) divisor: i128,
 }
 
-/// The sum of the multiples of the lines that were proved at two places, divided: each line may be multiplied
-/// so, the divisor is above 0, the lines have codes of each field in common, no number on the way is out of range, and the division
-/// leaves no remainder.
+/// What a step proves that combines the lines at the places `a` and `b`: the sum of their multiples,
+/// divided. None where no line was proved at one of the places, or where the lines may not be combined so,
+/// as `combined_lines` tells.
 pub(crate) fn combined<'a>(
     alloc: Global,
     basis: &Basis<'a>,
@@ -47,7 +50,7 @@ pub(crate) fn combined<'a>(
     }
 }
 
-// What a step proved that made this line, if it did.
+// The line, as what a step proved. None where there is no line, since the step is not valid.
 fn known_line<'a>(alloc: Global, line: Option<Line>) -> Result<Option<Known<'a>>, OutOfMemory>
     ensures { IfOk result (λ made. meant made ≡ lined line) }
 {
@@ -57,7 +60,9 @@ fn known_line<'a>(alloc: Global, line: Option<Line>) -> Result<Option<Known<'a>>
     }
 }
 
-/// The sum of the multiples of both lines, divided, if it may be taken.
+/// The sum of the multiples of both lines, divided. It is None unless each line may be multiplied so, the
+/// divisor is above 0, and the lines have codes of each field in common. It is also None where a number on
+/// the way is out of range, or the division leaves a remainder.
 pub(crate) fn combined_lines(
     alloc: Global,
     by: Multipliers,
@@ -77,14 +82,15 @@ pub(crate) fn combined_lines(
     }
 }
 
-// Whether both lines may be multiplied so, and the divisor is above 0.
+// Whether both lines may be multiplied so, and the divisor is above 0. An inequality may be multiplied by
+// numbers above 0 alone, since others would turn it round.
 fn are_allowed(by: Multipliers, s: &Line, t: &Line) -> bool
     ensures { result ≡ (may_multiply s.now.relation by.first && (may_multiply t.now.relation by.second && int_lt (pos 0) by.divisor)) }
 {
     s.relation().may_multiply(by.first) && t.relation().may_multiply(by.second) && by.divisor > 0
 }
 
-// The line, divided, if that leaves no remainder.
+// The line with its numbers divided, or None where that leaves a remainder.
 fn divided(mut line: Line, divisor: i128) -> Option<Line>
     requires { pos 0 <ℤ divisor }
     ensures { lined result ≡ only_if (divides divisor line) (Proved.Line (divided_by divisor line)) }

@@ -1,3 +1,7 @@
+//! The step that makes a box from one box for each code of a field. Whatever code the field has, one of
+//! these boxes forbids what they have in common on the other fields. In contracts, `meant` has what a step
+//! proved, and `premises` what it may build on. `AreWithin` says that no set has a code that its field has
+//! not. `IsBasis` says that a basis's parts fit.
 ghost use Rattle.std.specs.Prelude.{◌≡◌, ◌≤◌, IfOk, IfSome, List, Some, length, map, option_map};
 ghost use Rattle.edit_line.specs.inner.SetBounds.{AreWithin};
 ghost use Rattle.edit_line.specs.Sets.{AreSets};
@@ -13,8 +17,9 @@ use edit_line::{CodeBox, Shape, has_code, has_codes, narrow};
 use foundation::OutOfMemory;
 use std::alloc::Global;
 
-/// The box of what the boxes of the parts have in common on the other fields, whole at the field: there is
-/// one part for each code of the field, in declared order, and it has the code.
+/// What a step proves that covers the field by these parts: the box of what their boxes have in common on
+/// the other fields, whole at the field. None unless the field is categorical and has one part for each
+/// code, in declared order. Each part has to be a box with its code, and no set may come out empty.
 pub(crate) fn covered<'a>(
     alloc: Global,
     basis: &Basis<'a>,
@@ -38,7 +43,8 @@ pub(crate) fn covered<'a>(
     }
 }
 
-// The box of these sets, made whole at the categorical field of this place, if no set of it is empty.
+// The box of these sets, made whole at the categorical field of this place; None where a set of it is
+// empty.
 fn covered_at<'a>(
     alloc: Global,
     basis: &Basis<'a>,
@@ -61,7 +67,8 @@ fn covered_at<'a>(
     }
 }
 
-// What the boxes of the parts have in common, where the part for each code, from 0 on, has it at the place.
+// What the boxes of the parts have in common, from all codes on. None where the part for a code, from 0 on,
+// is no box or has not the code at the place.
 fn common_sets(
     alloc: Global,
     basis: &Basis,
@@ -87,7 +94,8 @@ fn common_sets(
     Ok(Some(common))
 }
 
-// The sets of a part's box, if it has the code at the place. No memory.
+// The sets of the box that was proved at `part`, or None where there is none or it has not the code at the
+// place. No memory.
 fn part_with<'k>(known: &'k [Known], place: usize, code: u8, part: u64) -> Option<&'k [u64]>
     ensures part { option_map (λ s. s.now) result ≡ part_with (map meaning known.now) place code part }
     ensures fit { IfSome result (λ s. (shape : List Domain) → AllOver shape known.now → AreSets s.now (whole_sets shape)) }

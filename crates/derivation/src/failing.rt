@@ -1,3 +1,6 @@
+//! The step that makes a box of a line. Where the line's linear part is false at the kept values, the
+//! codes must not all be in its sets. In contracts, `meant` has what a step proved, and `premises` what it
+//! may build on. `IsBasis` says that a basis's parts fit.
 ghost use Rattle.std.specs.Prelude.{◌≡◌, IfOk, map};
 ghost use Rattle.edit_model.specs.Rows.{IsRow};
 ghost use Rattle.edit_line.specs.Shapes.{shape_of};
@@ -13,8 +16,8 @@ use edit_model::{FieldSet, Row, Survey};
 use foundation::OutOfMemory;
 use std::alloc::Global;
 
-/// The box of the sets of the line that was proved at a place, if its factors stand at kept fields alone
-/// and its linear part is false at the record.
+/// What a step proves that makes a box of the line at the place: the box of its sets. None where no line
+/// was proved there, or the line does not fail at the kept fields, as `fails_at_kept` tells.
 pub(crate) fn failed<'a>(
     alloc: Global,
     basis: &Basis<'a>,
@@ -31,7 +34,7 @@ pub(crate) fn failed<'a>(
     }
 }
 
-// The box of the line's sets, if it fails so.
+// The box of the line's sets, or None where the line does not fail at the kept fields.
 fn failed_box<'a>(
     alloc: Global,
     basis: &Basis<'a>,
@@ -49,10 +52,10 @@ fn failed_box<'a>(
     Ok(Some(Known::of_box(alloc, code_box)?))
 }
 
-/// Whether only kept fields stand in the line, and its linear part is false at the record. A kept field at
-/// which the record is Bad counts as 0, so the answer says something of the line only where each kept field
-/// that stands in it has a value: then the line's linear part is false at every point that has the record's
-/// values at the kept fields. A sum that leaves the range does not fail. No memory.
+/// Whether only kept fields stand in the line, and its linear part is false at the record. Then it is false
+/// at every point that has the record's values at the kept fields. That holds only where each kept field
+/// that stands in the line has a value, since a Bad one counts as 0. A sum that leaves the range does not
+/// fail. No memory.
 pub fn fails_at_kept(survey: &Survey, row: &Row, kept: FieldSet, line: &Line) -> bool
     requires shape { line.now.shape ≡ shape_of survey.now.fields }
     requires row { IsRow survey.now.fields row.now }

@@ -1,3 +1,4 @@
+//! Why a list of steps is refused.
 use foundation::OutOfMemory;
 use std::alloc::{AllocError, AllocFailed};
 use std::{error, fmt};
@@ -17,6 +18,7 @@ impl fmt::Display for StepsFault {
 
     ghost output = { λ fault. Some (text_of fault) };
 
+    // Writes what is printed of the fault, without a line feed.
     fn fmt<W: fmt::Write>(&self, f: &mut fmt::Formatter<W>) -> fmt::Result {
         match self {
             StepsFault::Bad { place } => write!(f, "the step at place {place} is not valid"),
@@ -33,6 +35,7 @@ impl From<OutOfMemory> for StepsFault {
 
     ghost from_gives = { λ _ fault. fault ≡ faults.OutOfMemory };
 
+    // Memory that is refused is one of the faults.
     fn from(_refused: OutOfMemory) -> Self {
         StepsFault::OutOfMemory
     }
@@ -44,6 +47,7 @@ impl From<AllocError> for StepsFault {
 
     ghost from_gives = { λ _ fault. fault ≡ faults.OutOfMemory };
 
+    // Memory that the standard library refuses is one of the faults.
     fn from(_refused: AllocError) -> Self {
         StepsFault::OutOfMemory
     }
@@ -55,6 +59,7 @@ impl<T: Drop> From<AllocFailed<T>> for StepsFault {
 
     ghost from_gives = { λ _ fault. fault ≡ faults.OutOfMemory };
 
+    // Memory that is refused is one of the faults. What found no room is dropped.
     fn from(_refused: AllocFailed<T>) -> Self {
         StepsFault::OutOfMemory
     }

@@ -1,3 +1,6 @@
+//! The step that makes a box whole at a kept field. As the field keeps its code, only the codes of the
+//! other fields decide whether the box forbids them. In contracts, `meant` has what a step proved, and
+//! `premises` what it may build on. `IsBasis` says that a basis's parts fit.
 ghost use Rattle.std.specs.Prelude.{◌≡◌, ◌<◌, IfOk, Some, map, true};
 ghost use Rattle.edit_model.specs.FieldSets.{has_number};
 ghost use Rattle.edit_model.specs.Rows.{value_of};
@@ -14,7 +17,9 @@ use edit_model::Value;
 use foundation::OutOfMemory;
 use std::alloc::Global;
 
-/// The box of an earlier step, made whole at a kept categorical field at which it has the record's code.
+/// What a step proves that fixes the field in the box at `part`: that box, made whole at the field. None
+/// unless the field is categorical and kept, a box was proved at `part`, and it has the record's code
+/// there.
 pub(crate) fn fixed<'a>(
     alloc: Global,
     basis: &Basis<'a>,
@@ -38,7 +43,7 @@ pub(crate) fn fixed<'a>(
     }
 }
 
-// Whether the categorical field is kept.
+// Whether the categorical field is one of those whose values the steps keep.
 fn is_kept(basis: &Basis, field: u32) -> bool
     requires { has_field (code_fields (shape_in basis.now)) field ≡ true }
     ensures { result ≡ has_number basis.now.kept field }
@@ -47,7 +52,8 @@ fn is_kept(basis: &Basis, field: u32) -> bool
     basis.kept.has(field)
 }
 
-// The box, made whole at the categorical field of this place, if it has the record's code there.
+// The box, made whole at the categorical field of this place; None where it has not the record's code
+// there.
 fn fixed_at<'a>(
     alloc: Global,
     basis: &Basis<'a>,
@@ -72,7 +78,7 @@ fn fixed_at<'a>(
     Ok(Some(Known::of_box(alloc, code_box)?))
 }
 
-// Whether the value is a code of the set.
+// Whether the value is a code of the set, kept as bits; no number and no missing value is.
 fn has_value(set: u64, value: &Value) -> bool
     ensures { result ≡ has_value set value.now }
 {

@@ -1,3 +1,5 @@
+//! The step that takes a given line, which it may where that is usable. In contracts, `given_line` has
+//! what such a step proves by the definition, which is nothing where the step is not valid.
 ghost use Rattle.std.specs.Prelude.{◌≡◌, length, option_map};
 ghost use Rattle.derivation.specs.inner.Bases.{IsBasis, premises};
 ghost use Rattle.derivation.specs.inner.Meanings.{lined, meant};
@@ -8,7 +10,8 @@ use crate::basis::Basis;
 use crate::known::Known;
 use edit_line::Line;
 
-/// The given line at the place, if it is usable. No memory.
+/// What a step proves that takes the given line at the place; None where there is none or it is not usable.
+/// No memory.
 pub(crate) fn given<'a>(basis: &Basis<'a>, place: u64) -> Option<Known<'a>>
     requires { IsBasis basis.now }
     ensures { meant result ≡ given_line (premises basis.now) place }
@@ -19,7 +22,7 @@ pub(crate) fn given<'a>(basis: &Basis<'a>, place: u64) -> Option<Known<'a>>
     }
 }
 
-/// The given line at the place, if it is usable. No memory.
+/// The given line at the place, or None where there is none or it is not usable. No memory.
 pub(crate) fn usable_line<'l>(given: &'l [Line], usable: &[bool], place: u64) -> Option<&'l Line>
     requires { length given.now ≡ length usable.now }
     ensures { (p : Premises) → p.given ≡ given.now → p.usable ≡ usable.now

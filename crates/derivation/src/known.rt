@@ -1,3 +1,5 @@
+//! What the steps so far have proved, found again by their places. In contracts, `meaning` has the line or
+//! the box that was proved, however it is kept. `AllOver` says that all that was proved is over one shape.
 ghost use Rattle.std.specs.Prelude.{◌≡◌, IfNone, IfOk, IfSome, List, None, Some, map, slice_get};
 ghost use Rattle.edit_line.specs.Shapes.{Domain};
 ghost use Rattle.derivation.specs.inner.Meanings.{AllOver, meaning};
@@ -19,21 +21,21 @@ pub(crate) enum Known<'a> {
 }
 
 impl<'a> Known<'a> {
-    /// A line that was made.
+    /// What a step proved that made this line.
     pub(crate) fn of_line(alloc: Global, line: Line) -> Result<Known<'a>, OutOfMemory>
         ensures { IfOk result (λ known. meaning known ≡ Proved.Line line) }
     {
         Ok(Known::Line(Box::new(alloc, line)?))
     }
 
-    /// A box that was made.
+    /// What a step proved that made this box.
     pub(crate) fn of_box(alloc: Global, code_box: CodeBox) -> Result<Known<'a>, OutOfMemory>
         ensures { IfOk result (λ known. meaning known ≡ Proved.Box code_box) }
     {
         Ok(Known::Box(Box::new(alloc, code_box)?))
     }
 
-    // The line, if it is one. No memory.
+    // The line, or None where a box was proved. No memory.
     fn line(&self) -> Option<&Line>
         ensures some { IfSome result (λ line. meaning self.now ≡ Proved.Line line.now) }
         ensures none { IfNone result (as_line (Some (meaning self.now)) ≡ None) }
@@ -45,7 +47,7 @@ impl<'a> Known<'a> {
         }
     }
 
-    // The box, if it is one. No memory.
+    // The box, or None where a line was proved. No memory.
     fn code_box(&self) -> Option<&CodeBox>
         ensures some { IfSome result (λ b. meaning self.now ≡ Proved.Box b.now) }
         ensures none { IfNone result (as_box (Some (meaning self.now)) ≡ None) }
@@ -56,7 +58,7 @@ impl<'a> Known<'a> {
         }
     }
 
-    /// What was proved, as a value of its own.
+    /// What was proved, as a value of its own: a given line is copied.
     pub(crate) fn into_proved(self, alloc: Global) -> Result<Proved, OutOfMemory>
         ensures { IfOk result (λ proved. proved ≡ meaning self.entry) }
     {
@@ -68,7 +70,7 @@ impl<'a> Known<'a> {
     }
 }
 
-/// The line that was proved at a place. No memory.
+/// The line that was proved at a place, or None where there is none or a box was proved. No memory.
 pub(crate) fn line_at<'k, 'a>(known: &'k [Known<'a>], place: u64) -> Option<&'k Line>
     ensures some { IfSome result (λ line. slice_get (map meaning known.now) place ≡ Some (Proved.Line line.now)) }
     ensures none { IfNone result (as_line (slice_get (map meaning known.now) place) ≡ None) }
@@ -80,7 +82,7 @@ pub(crate) fn line_at<'k, 'a>(known: &'k [Known<'a>], place: u64) -> Option<&'k 
     }
 }
 
-/// The box that was proved at a place. No memory.
+/// The box that was proved at a place, or None where there is none or a line was proved. No memory.
 pub(crate) fn box_at<'k, 'a>(known: &'k [Known<'a>], place: u64) -> Option<&'k CodeBox>
     ensures some { IfSome result (λ b. slice_get (map meaning known.now) place ≡ Some (Proved.Box b.now)) }
     ensures none { IfNone result (as_box (slice_get (map meaning known.now) place) ≡ None) }
@@ -92,7 +94,7 @@ pub(crate) fn box_at<'k, 'a>(known: &'k [Known<'a>], place: u64) -> Option<&'k C
     }
 }
 
-// What was proved at a place, if an earlier step has it. No memory.
+// What the step at a place proved, or None where no earlier step has the place. No memory.
 fn known_at<'k, 'a>(known: &'k [Known<'a>], place: u64) -> Option<&'k Known<'a>>
     ensures some { IfSome result (λ one. slice_get (map meaning known.now) place ≡ Some (meaning one.now)) }
     ensures none { IfNone result (slice_get (map meaning known.now) place ≡ None) }

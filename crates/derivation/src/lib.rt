@@ -1,8 +1,8 @@
 //! Derivations: lists of small steps that anyone can check one by one, and what they show. A step takes a
-//! given line, combines two lines, turns a line that fails at a record into a box of codes that are
-//! forbidden, or makes a box from boxes. Begin with [`check_steps`]: it accepts a list exactly where each
-//! step is valid (`specs/ValidSteps.antt`), and what the last step proves then follows (`specs/Shown.antt`).
-//! Steps that refute the negation of a line show the line (`specs/Refutations.antt`).
+//! given line, combines two, or makes a box of forbidden codes, of a line that fails at a record or of
+//! boxes. Begin with [`check_steps`]: it accepts a list exactly where each step is valid
+//! (`specs/ValidSteps.antt`), and what the last step proves then follows (`specs/Shown.antt`). Steps that
+//! refute the negation of a line show the line (`specs/Refutations.antt`).
 #![tactic(auto)]
 
 mod basis;

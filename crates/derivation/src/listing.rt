@@ -1,4 +1,7 @@
-//! The lines of steps each of which proves one by itself.
+//! Steps each of which proves a line by itself, whatever the record is: as in a table, whose lines all
+//! records share. In contracts, `AreLinesOf` says that the lines are those of the steps, and
+//! `IsFirstWithoutLine` names the first step that gives none. `no_record` has what such steps may build
+//! on.
 ghost use Rattle.std.specs.Prelude.{◌≡◌, ◌<◌, ℕ, Err, IfOk, IfNone, IfSome, None, Some, length, option_map, slice_get};
 ghost use Rattle.edit_line.specs.Lines.{AreOver, HaveOneShape};
 ghost use Rattle.edit_line.specs.Shapes.{shape_of};
@@ -19,8 +22,8 @@ use std::alloc::Global;
 
 /// The line of each step, exactly where each is a valid given line or a valid combination of two earlier
 /// ones. The given lines are over the survey's fields. Bad comes with the place of the first step that is
-/// not. Each of the lines follows from the usable given ones. The time for each step is in proportion to its
-/// line.
+/// neither. Each of the lines follows from the usable given ones. The time for each step is in proportion
+/// to its line.
 pub fn line_list(
     alloc: Global,
     survey: &Survey,
@@ -49,7 +52,8 @@ pub fn line_list(
     Ok(lines)
 }
 
-// The line of a step, from those of the steps before it, if it gives one.
+// The line of a step, from those of the steps before it, or None where the step is not valid or makes a
+// box.
 fn line_of(
     alloc: Global,
     given: &[Line],
@@ -75,7 +79,7 @@ fn line_of(
     }
 }
 
-// A copy of the given line at the place, if it is usable.
+// A copy of the given line at the place, or None where there is none or it is not usable.
 fn given_copy(
     alloc: Global,
     given: &[Line],
@@ -91,7 +95,8 @@ fn given_copy(
     }
 }
 
-// The combination of the lines at two places, if they are there and it may be taken.
+// The combination of the lines of the steps at two places. None where one of the places is not that of an
+// earlier step, or the lines may not be combined so, as `combined_lines` tells.
 fn combination(
     alloc: Global,
     lines: &[Line],

@@ -1,3 +1,4 @@
+//! What a step of a derivation can prove: a line, or that codes are forbidden.
 use edit_line::{CodeBox, Line};
 
 /// What a step proves.

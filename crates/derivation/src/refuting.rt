@@ -11,7 +11,7 @@ use edit_model::{Row, Survey, Value};
 use foundation::OutOfMemory;
 use std::alloc::Global;
 
-/// The record without values, of which a refutation keeps no field.
+/// The record without values, for a refutation: its check asks for some record, of which it keeps no field.
 pub fn record_without_values(alloc: Global, survey: &Survey) -> Result<Row, OutOfMemory>
     ensures values { IfOk result (λ row. row ≡ no_values survey.now.fields) }
     ensures row { IfOk result (λ row. IsRow survey.now.fields row) }
@@ -21,7 +21,8 @@ pub fn record_without_values(alloc: Global, survey: &Survey) -> Result<Row, OutO
 }
 
 impl Proved {
-    /// Whether this is what no point meets: a false line of all codes, or the box of all codes. No memory.
+    /// Whether this is what no point meets: a line for all codes that never holds, or the box of all codes.
+    /// No memory.
     pub fn is_absurd(&self) -> bool
         ensures { (shape : List Domain) → IsOver shape self.now → result ≡ is_absurd shape self.now }
     {

@@ -1,3 +1,4 @@
+//! The steps of which derivations are made, as they are also written in proof files.
 ghost use Rattle.std.specs.Prelude.{◌≡◌, IfOk};
 
 use foundation::{OutOfMemory, Sequence};
@@ -19,8 +20,8 @@ pub enum Step {
     },
     /// The box of the sets of the line of the step at this place, which fails at the record.
     Fail(u64),
-    /// What the boxes of the steps at these places, one for each code of the field in declared order, have
-    /// in common on the other fields, made whole at the field (Fellegi and Holt 1976).
+    /// What the boxes of the steps at these places have in common on the other fields, made whole at the
+    /// field (Fellegi and Holt 1976). There is one place for each code of the field, in declared order.
     Cover {
         field: u32,
         parts: Sequence<u64>,

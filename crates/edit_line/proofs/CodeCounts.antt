@@ -1,4 +1,5 @@
-use Rattle.std.proofs.Common.{◌≡◌, ℕ, zero, suc, ◌+◌, ◌<◌, ◌≤◌, ◌==◌, nat_lt, if◌then◌else◌, Bool, true, false, List, [], ◌∷◌, length, map, slice_index_or, take, refl, sym, ap, ◌∙◌, arith}
+use Rattle.std.proofs.Common.{◌≡◌, ℕ, zero, suc, ◌+◌, ◌<◌, ◌≤◌, ◌==◌, nat_lt, if◌then◌else◌, Bool, true, false, List, [], ◌∷◌, length, map, slice_index_or}
+use Rattle.std.proofs.Common.{take, refl, sym, ap, ◌∙◌, arith}
 use Rattle.std.specs.List.{filter}
 use Rattle.std.proofs.lemmas.Bool.Decides.{Decides-eqb}
 use Rattle.edit_line.specs.Shapes.{Categorical, Domain, Numerical, codes_from, domain_with, place_in}
@@ -35,12 +36,14 @@ size-at i zero (zero ∷ counts) = sym (size-past (suc i) (map domain_with count
 size-at i zero (suc n ∷ counts) = ap (λ b. if b then suc n else size_from (suc i) (map domain_with counts) (i + 0)) (sym (itself i))
 size-at i (suc k) (zero ∷ counts) = size-at (suc i) k counts ∙ ap (λ f. size_from (suc i) (map domain_with counts) f) (sym (shifted i k))
 size-at i (suc k) (suc n ∷ counts) =
-    size-at (suc i) k counts ∙ ap (λ f. size_from (suc i) (map domain_with counts) f) (sym (shifted i k)) ∙ ap (λ b. if b then suc n else size_from (suc i) (map domain_with counts) (i + suc k)) (sym (other i k))
+    size-at (suc i) k counts ∙ ap (λ f. size_from (suc i) (map domain_with counts) f) (sym (shifted i k))
+    ∙ ap (λ b. if b then suc n else size_from (suc i) (map domain_with counts) (i + suc k)) (sym (other i k))
 
 above : (n : ℕ) → nat_lt 0 (suc n) ≡ true
 above n = grind arith
 
-place-at : (i k : ℕ) (counts : List ℕ) → 0 < slice_index_or counts k 0 → place_in (codes_from i (map domain_with counts)) (i + k) ≡ length (filter (λ n. nat_lt 0 n) (take k counts))
+place-at : (i k : ℕ) (counts : List ℕ) → 0 < slice_index_or counts k 0 → place_in (codes_from i (map domain_with counts)) (i + k)
+    ≡ length (filter (λ n. nat_lt 0 n) (take k counts))
 place-at i k [] takes = absurd (omega arith)
 place-at i zero (zero ∷ counts) takes = absurd (omega arith)
 place-at i zero (suc n ∷ counts) takes = ap (λ b. if b then 0 else suc (place_in (codes_from (suc i) (map domain_with counts)) (i + 0))) (itself i)
@@ -64,7 +67,8 @@ module _ (shape : List Domain) (counts : List ℕ) (f : ℕ) (are : map domain_w
   field-within takes = some-within counts f (omega (arith, takes, size_of-is))
 
   pub place_of-is : TakesCodes shape f → length (filter (λ n. nat_lt 0 n) (take f counts)) ≡ place_of shape f
-  place_of-is takes = sym (place-at 0 f counts (omega (arith, takes, size_of-is))) ∙ ap (λ n. place_in (codes_from 0 (map domain_with counts)) n) (omega arith) ∙ ap (λ s. place_of s f) are
+  place_of-is takes = sym (place-at 0 f counts (omega (arith, takes, size_of-is))) ∙ ap (λ n. place_in (codes_from 0 (map domain_with counts)) n) (omega arith)
+      ∙ ap (λ s. place_of s f) are
 
 -- past the last field there is none
 past-none : (counts : List ℕ) (f : ℕ) → length counts ≤ f → slice_index_or counts f 0 ≡ 0

@@ -1,4 +1,5 @@
-use Rattle.std.proofs.Common.{◌≡◌, ◌==◌, Bool, true, false, not, nat_eq, ◌≤◌, List, [], ◌∷◌, ℕ, ℤ, pos, ◌<ℤ◌, ◌≤ℤ◌, ◌+ℤ◌, ◌*ℤ◌, bit_and, length, map, if◌then◌else◌, refl, sym, ap, ◌∙◌, subst, arith}
+use Rattle.std.proofs.Common.{◌≡◌, ◌==◌, Bool, true, false, not, nat_eq, ◌≤◌, List, [], ◌∷◌, ℕ, ℤ, pos, ◌<ℤ◌, ◌≤ℤ◌, ◌+ℤ◌, ◌*ℤ◌, bit_and, length, map}
+use Rattle.std.proofs.Common.{if◌then◌else◌, refl, sym, ap, ◌∙◌, subst, arith}
 use Rattle.std.proofs.lemmas.Bool.Decides.{Decides-eqb}
 use Rattle.std.proofs.lemmas.Int.{ints}
 use Rattle.std.proofs.lemmas.Nat.Bits.{bit_at_and, bit_at-lt, bit_at-zero}
@@ -44,7 +45,8 @@ weighted-scaled n (b ∷ factors) [] = times_none n
 weighted-scaled n (b ∷ factors) (x ∷ values) = scaled_more n b x _ _ (weighted-scaled n factors values)
 
 -- the sum of the combined factors
-pub weighted-combined : (m n : ℤ) (first second values : List ℤ) → weighted (combined m n first second) values ≡ m *ℤ weighted first values +ℤ n *ℤ weighted second values
+pub weighted-combined : (m n : ℤ) (first second values : List ℤ) → weighted (combined m n first second) values
+    ≡ m *ℤ weighted first values +ℤ n *ℤ weighted second values
 weighted-combined m n [] [] values = times_nones m n
 weighted-combined m n [] (b ∷ second) values = weighted-scaled n (b ∷ second) values ∙ add_none m _
 weighted-combined m n (a ∷ first) [] values = weighted-scaled m (a ∷ first) values ∙ add_none_last n _
@@ -52,7 +54,8 @@ weighted-combined m n (a ∷ first) (b ∷ second) [] = times_nones m n
 weighted-combined m n (a ∷ first) (b ∷ second) (x ∷ values) = combined_more m n a b x _ _ _ (weighted-combined m n first second values)
 
 -- the multiplied factor at a field
-pub beside-scaled : (n : ℤ) (fields : List ℕ) (factors : List ℤ) (f : ℕ) → beside (pos 0) fields (map (λ b. n *ℤ b) factors) f ≡ n *ℤ beside (pos 0) fields factors f
+pub beside-scaled : (n : ℤ) (fields : List ℕ) (factors : List ℤ) (f : ℕ) → beside (pos 0) fields (map (λ b. n *ℤ b) factors) f
+    ≡ n *ℤ beside (pos 0) fields factors f
 beside-scaled n [] factors f = times_none n
 beside-scaled n (i ∷ fields) [] f = times_none n
 beside-scaled n (i ∷ fields) (b ∷ factors) f = by (i == f) (beside-scaled n fields factors f)
@@ -63,7 +66,8 @@ beside-scaled n (i ∷ fields) (b ∷ factors) f = by (i == f) (beside-scaled n 
     by false e = e
 
 -- and the combined one
-pub beside-combined : (m n : ℤ) (fields : List ℕ) (first second : List ℤ) (f : ℕ) → beside (pos 0) fields (combined m n first second) f ≡ m *ℤ beside (pos 0) fields first f +ℤ n *ℤ beside (pos 0) fields second f
+pub beside-combined : (m n : ℤ) (fields : List ℕ) (first second : List ℤ) (f : ℕ) → beside (pos 0) fields (combined m n first second) f
+    ≡ m *ℤ beside (pos 0) fields first f +ℤ n *ℤ beside (pos 0) fields second f
 beside-combined m n [] first second f = times_nones m n
 beside-combined m n (i ∷ fields) [] [] f = times_nones m n
 beside-combined m n (i ∷ fields) [] (b ∷ second) f = beside-scaled n (i ∷ fields) (b ∷ second) f ∙ add_none m _
@@ -71,7 +75,8 @@ beside-combined m n (i ∷ fields) (a ∷ first) [] f = beside-scaled m (i ∷ f
 beside-combined m n (i ∷ fields) (a ∷ first) (b ∷ second) f = by (i == f) (beside-combined m n fields first second f)
   where
     by : (t : Bool) → beside (pos 0) fields (combined m n first second) f ≡ m *ℤ beside (pos 0) fields first f +ℤ n *ℤ beside (pos 0) fields second f
-        → (if t then m *ℤ a +ℤ n *ℤ b else beside (pos 0) fields (combined m n first second) f) ≡ m *ℤ (if t then a else beside (pos 0) fields first f) +ℤ n *ℤ (if t then b else beside (pos 0) fields second f)
+        → (if t then m *ℤ a +ℤ n *ℤ b else beside (pos 0) fields (combined m n first second) f)
+        ≡ m *ℤ (if t then a else beside (pos 0) fields first f) +ℤ n *ℤ (if t then b else beside (pos 0) fields second f)
     by true e = refl
     by false e = e
 
@@ -86,7 +91,10 @@ length-combined m n (a ∷ first) (b ∷ second) e = let rest = length-combined 
 
 -- a code of both sets
 pub HasCode-both : (s t code : ℕ) → HasCode (bit_and s t) code → HasCode s code × HasCode t code
-HasCode-both s t code h = (omega (arith, bit_at_and s t code, bit_at-lt s code, bit_at-lt t code, h), omega (arith, bit_at_and s t code, bit_at-lt s code, bit_at-lt t code, h))
+HasCode-both s t code h = (
+  omega (arith, bit_at_and s t code, bit_at-lt s code, bit_at-lt t code, h),
+  omega (arith, bit_at_and s t code, bit_at-lt s code, bit_at-lt t code, h),
+)
 
 both-HasCode : (s t code : ℕ) → HasCode s code → HasCode t code → HasCode (bit_and s t) code
 both-HasCode s t code h k = omega (arith, bit_at_and s t code, h, k)
@@ -109,7 +117,8 @@ inside-meets (s ∷ first) (t ∷ second) [] one two = tt
 inside-meets (s ∷ first) (t ∷ second) (code ∷ codes) one two = (both-HasCode s t code one.0 two.0, inside-meets first second codes one.1 two.1)
 
 -- sets that have a code of each field in common all meet
-pub inside-all_meet : (first second codes : List ℕ) → length first ≤ length codes → AreCodesIn first codes → AreCodesIn second codes → all_meet first second ≡ true
+pub inside-all_meet : (first second codes : List ℕ) → length first ≤ length codes → AreCodesIn first codes → AreCodesIn second codes → all_meet first second
+    ≡ true
 inside-all_meet [] second codes many one two = refl
 inside-all_meet (s ∷ first) [] codes many one two = refl
 inside-all_meet (s ∷ first) (t ∷ second) [] many one two = absurd (omega arith)
@@ -150,7 +159,8 @@ amount-combined m n g s t line p is =
     ∙ amounts_add m n _ _ s.constant t.constant p.denominator
     ∙ ap (λ (shape : List Domain). m *ℤ amount s p +ℤ n *ℤ (weighted t.factors (numerators_at shape p) +ℤ t.constant *ℤ p.denominator)) (sym is.same)
   where
-    factors : g *ℤ weighted line.factors (numerators_at line.shape p) ≡ m *ℤ weighted s.factors (numerators_at s.shape p) +ℤ n *ℤ weighted t.factors (numerators_at s.shape p)
+    factors : g *ℤ weighted line.factors (numerators_at line.shape p) ≡ m *ℤ weighted s.factors (numerators_at s.shape p) +ℤ n *ℤ weighted t.factors
+        (numerators_at s.shape p)
     factors =
         sym (weighted-scaled g line.factors (numerators_at line.shape p))
         ∙ ap (λ (fs : List ℤ). weighted fs (numerators_at line.shape p)) is.factors
@@ -187,16 +197,23 @@ IsEnough-joined Equal second y z h k = subst (λ (x : ℤ). IsEnough second x) (
     only z y e = rw (e, parts z) (simp ring (same_dif _ _ _ _ (omega arith)))
 
 -- m times what is enough and n times what is enough
-pub IsEnough-sum : (first second : Relation) (m n y z : ℤ) → KeepsEnough first m → KeepsEnough second n → IsEnough first y → IsEnough second z → IsEnough (joined first second) (m *ℤ y +ℤ n *ℤ z)
-IsEnough-sum first second m n y z m_keeps n_keeps h k = IsEnough-joined first second (m *ℤ y) (n *ℤ z) (IsEnough-scaled first m y m_keeps h) (IsEnough-scaled second n z n_keeps k)
+pub IsEnough-sum : (first second : Relation) (m n y z : ℤ) → KeepsEnough first m → KeepsEnough second n → IsEnough first y → IsEnough second z
+    → IsEnough (joined first second) (m *ℤ y +ℤ n *ℤ z)
+IsEnough-sum first second m n y z m_keeps n_keeps h k = IsEnough-joined first second (m *ℤ y) (n *ℤ z) (IsEnough-scaled first m y m_keeps h)
+    (IsEnough-scaled second n z n_keeps k)
 
 -- the combination of two lines that hold at a point holds there
-pub LineHolds-combined : (m n g : ℤ) (s t line : LineParts) (p : Point) → KeepsEnough s.relation m → KeepsEnough t.relation n → pos 0 <ℤ g → IsCombined m n g s t line → LineHolds s p → LineHolds t p → LineHolds line p
+pub LineHolds-combined : (m n g : ℤ) (s t line : LineParts) (p : Point) → KeepsEnough s.relation m → KeepsEnough t.relation n → pos 0 <ℤ g
+    → IsCombined m n g s t line → LineHolds s p → LineHolds t p → LineHolds line p
 LineHolds-combined m n g s t line p m_keeps n_keeps g_above is s_holds t_holds = record {
   enough = λ inside.
-      let both : AreCodesIn (in_both s.sets t.sets) (codes_at s.shape p) = subst (λ (shape : List Domain). AreCodesIn (in_both s.sets t.sets) (codes_at shape p)) is.shape (subst (λ (sets : List ℕ). AreCodesIn sets (codes_at line.shape p)) is.sets inside) in
+      let both : AreCodesIn (in_both s.sets t.sets) (codes_at s.shape p) =
+      subst (λ (shape : List Domain). AreCodesIn (in_both s.sets t.sets) (codes_at shape p)) is.shape
+      (subst (λ (sets : List ℕ). AreCodesIn sets (codes_at line.shape p)) is.sets inside) in
       let (in_s, in_t) = meets-inside s.sets t.sets (codes_at s.shape p) both in
-      let sum = IsEnough-sum s.relation t.relation m n (amount s p) (amount t p) m_keeps n_keeps (s_holds.enough in_s) (t_holds.enough (subst (λ (shape : List Domain). AreCodesIn t.sets (codes_at shape p)) (sym is.same) in_t)) in
+      let sum = IsEnough-sum s.relation t.relation m n (amount s p) (amount t p) m_keeps n_keeps (s_holds.enough in_s)
+      (t_holds.enough (subst (λ (shape : List Domain). AreCodesIn t.sets (codes_at shape p)) (sym is.same) in_t)) in
       subst (λ (r : Relation). IsEnough r (amount line p)) (sym is.relation)
-      (IsEnough_cancel (joined s.relation t.relation) (amount line p) g g_above (subst (λ (z : ℤ). IsEnough (joined s.relation t.relation) z) (sym (amount-combined m n g s t line p is) ∙ comm g (amount line p)) sum));
+      (IsEnough_cancel (joined s.relation t.relation) (amount line p) g g_above (subst (λ (z : ℤ). IsEnough (joined s.relation t.relation) z)
+      (sym (amount-combined m n g s t line p is) ∙ comm g (amount line p)) sum));
 }

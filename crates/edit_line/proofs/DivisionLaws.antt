@@ -1,4 +1,5 @@
-use Rattle.std.proofs.Common.{◌≡◌, ℕ, zero, suc, ◌<◌, ◌^◌, List, [], ◌∷◌, All, map, take, ℤ, pos, negsuc, ◌<ℤ◌, ◌+ℤ◌, ◌*ℤ◌, unsigned_abs, int_div, refl, sym, ap, ◌∙◌, subst, arith}
+use Rattle.std.proofs.Common.{◌≡◌, ℕ, zero, suc, ◌<◌, ◌^◌, List, [], ◌∷◌, All, map, take, ℤ, pos, negsuc, ◌<ℤ◌, ◌+ℤ◌, ◌*ℤ◌, unsigned_abs, int_div, refl, sym}
+use Rattle.std.proofs.Common.{ap, ◌∙◌, subst, arith}
 use Rattle.std.specs.Int.{◌∣◌}
 use Rattle.std.proofs.Math.Nat.{eq-one_of_dvd-one, one-dvd}
 use Rattle.std.proofs.lemmas.Nat.Gcd.{dvd_refl, dvd_trans}
@@ -56,11 +57,13 @@ module _ (factors : List ℤ) (constant : ℤ) where
 
 gcd_onto-below : (g m : ℕ) (xs : List ℤ) → g < m → All (λ x. unsigned_abs x < m) xs → gcd_onto g xs < m
 gcd_onto-below g m [] below all = below
-gcd_onto-below g m (x ∷ xs) below all = gcd_onto-below (gcd g (unsigned_abs x)) m xs (gcd-below g (unsigned_abs x) m below (all 0 x (omega arith))) (λ k d under. all (suc k) d (omega arith))
+gcd_onto-below g m (x ∷ xs) below all = gcd_onto-below (gcd g (unsigned_abs x)) m xs (gcd-below g (unsigned_abs x) m below (all 0 x (omega arith)))
+    (λ k d under. all (suc k) d (omega arith))
 
 -- the divisor is in range where the numbers are
 pub divisor-in_range : (factors : List ℤ) (constant : ℤ) → All InRange factors → InRange constant → InRange (divisor_of factors constant)
-divisor-in_range factors constant all fits = or_one-below (gcd_all (constant ∷ factors)) _ (gcd_onto-below 0 _ (constant ∷ factors) (omega arith) each) (omega arith)
+divisor-in_range factors constant all fits = or_one-below (gcd_all (constant ∷ factors)) _ (gcd_onto-below 0 _ (constant ∷ factors) (omega arith) each)
+    (omega arith)
   where
     each : All (λ x. unsigned_abs x < 2 ^ 127) (constant ∷ factors)
     each zero d below = fits
@@ -83,11 +86,13 @@ product_over w q x g a e = opened q x w g ∙ ap (λ (b : ℤ). b *ℤ x +ℤ w 
 no_product : (g : ℤ) → pos 0 *ℤ g ≡ pos 0
 no_product g = rw (parts g) (simp ring (same_dif _ _ _ _ (omega arith)))
 
-weighted-quotients : (factors values : List ℤ) (g : ℕ) → All (λ x. g ∣ unsigned_abs x) factors → weighted (map (λ c. int_div c (pos g)) factors) values *ℤ pos g ≡ weighted factors values
+weighted-quotients : (factors values : List ℤ) (g : ℕ) → All (λ x. g ∣ unsigned_abs x) factors → weighted (map (λ c. int_div c (pos g)) factors) values *ℤ pos g
+    ≡ weighted factors values
 weighted-quotients [] values g divides = no_product (pos g)
 weighted-quotients (a ∷ factors) [] g divides = no_product (pos g)
 weighted-quotients (a ∷ factors) (x ∷ values) g divides =
-    product_over (weighted (map (λ c. int_div c (pos g)) factors) values) (int_div a (pos g)) x (pos g) a (quotient-exact a _ g refl (divides 0 a (omega arith)))
+    product_over (weighted (map (λ c. int_div c (pos g)) factors) values) (int_div a (pos g)) x (pos g) a
+    (quotient-exact a _ g refl (divides 0 a (omega arith)))
     ∙ ap (λ (w : ℤ). a *ℤ x +ℤ w) (weighted-quotients factors values g (λ k d below. divides (suc k) d (omega arith)))
 
 sum_over : (w q d g a v : ℤ) → q *ℤ g ≡ a → w *ℤ g ≡ v → (w +ℤ q *ℤ d) *ℤ g ≡ v +ℤ a *ℤ d
@@ -104,17 +109,21 @@ reduced-amount line p =
     (weighted-quotients line.factors (numerators_at line.shape p) _ (divides-factors line.factors line.constant))
 
 -- where the divided line holds, the line's amount is enough at codes of its sets
-pub reduced-enough : (line : LineParts) (p : Point) → LineHolds (reduced line) p → AreCodesIn line.sets (codes_at line.shape p) → IsEnough line.relation (amount line p)
+pub reduced-enough : (line : LineParts) (p : Point) → LineHolds (reduced line) p → AreCodesIn line.sets (codes_at line.shape p)
+    → IsEnough line.relation (amount line p)
 unfolding reduced
 reduced-enough line p holds inside =
-    subst (λ (z : ℤ). IsEnough line.relation z) (reduced-amount line p) (IsEnough-times line.relation (amount (reduced line) p) _ (divisor-above line.factors line.constant) (holds.enough inside))
+    subst (λ (z : ℤ). IsEnough line.relation z) (reduced-amount line p) (IsEnough-times line.relation (amount (reduced line) p) _
+    (divisor-above line.factors line.constant) (holds.enough inside))
 
 -- and the other way round
-pub enough-reduced : (line : LineParts) (p : Point) → (AreCodesIn line.sets (codes_at line.shape p) → IsEnough line.relation (amount line p)) → LineHolds (reduced line) p
+pub enough-reduced : (line : LineParts) (p : Point) → (AreCodesIn line.sets (codes_at line.shape p) → IsEnough line.relation (amount line p))
+    → LineHolds (reduced line) p
 unfolding reduced
 enough-reduced line p enough = record {
   enough = λ inside.
-      IsEnough_cancel line.relation (amount (reduced line) p) _ (divisor-above line.factors line.constant) (subst (λ (z : ℤ). IsEnough line.relation z) (sym (reduced-amount line p)) (enough inside));
+      IsEnough_cancel line.relation (amount (reduced line) p) _ (divisor-above line.factors line.constant)
+      (subst (λ (z : ℤ). IsEnough line.relation z) (sym (reduced-amount line p)) (enough inside));
 }
 
 -- ---- a divided line is a line
@@ -129,7 +138,8 @@ IsLine-divided line (pos g) above is = record {
 IsLine-divided line (negsuc g) above is = absurd above.lt
 
 -- the line that is made of the quotients
-pub divided-is : (line : LineParts) (g dividing : ℤ) (factors : List ℤ) (given q last : ℤ) → dividing ≡ g → given ≡ line.constant → factors ≡ map (λ c. int_div c dividing) line.factors → q ≡ int_div given dividing → last ≡ q
+pub divided-is : (line : LineParts) (g dividing : ℤ) (factors : List ℤ) (given q last : ℤ) → dividing ≡ g → given ≡ line.constant → factors
+    ≡ map (λ c. int_div c dividing) line.factors → q ≡ int_div given dividing → last ≡ q
     → parts_of line.shape line.sets factors last line.relation ≡ divided_by g line
 divided-is line g dividing factors given q last dividing_is given_is factors_are q_is last_is =
     let quotients : factors ≡ map (λ c. int_div c g) line.factors = factors_are ∙ ap (λ (d : ℤ). map (λ c. int_div c d) line.factors) dividing_is in
@@ -137,9 +147,11 @@ divided-is line g dividing factors given q last dividing_is given_is factors_are
     λ i. parts_of line.shape line.sets (quotients i) (constant i) line.relation
 
 -- a line that is divided by the greatest common divisor of its numbers
-pub reduced-is : (old new : LineParts) (factors : List ℤ) (constant g divisor : ℤ) → factors ≡ old.factors → constant ≡ old.constant → divisor ≡ divisor_of factors constant → g ≡ divisor → new ≡ divided_by g old → new ≡ reduced old
+pub reduced-is : (old new : LineParts) (factors : List ℤ) (constant g divisor : ℤ) → factors ≡ old.factors → constant ≡ old.constant → divisor
+    ≡ divisor_of factors constant → g ≡ divisor → new ≡ divided_by g old → new ≡ reduced old
 unfolding reduced
-reduced-is old new factors constant g divisor factors_are constant_is divisor_is g_is new_is = new_is ∙ ap (λ (d : ℤ). divided_by d old) (g_is ∙ divisor_is ∙ (λ i. divisor_of (factors_are i) (constant_is i)))
+reduced-is old new factors constant g divisor factors_are constant_is divisor_is g_is new_is = new_is
+    ∙ ap (λ (d : ℤ). divided_by d old) (g_is ∙ divisor_is ∙ (λ i. divisor_of (factors_are i) (constant_is i)))
 
 pub shape-reduced : (line : LineParts) → (reduced line).shape ≡ line.shape
 unfolding reduced
@@ -173,7 +185,8 @@ gcd_onto-stops g xs zero one = ap (λ d. gcd_onto d xs) one ∙ gcd_onto-one xs
 gcd_onto-stops g [] (suc i) one = one
 gcd_onto-stops g (x ∷ xs) (suc i) one = gcd_onto-stops (gcd g (unsigned_abs x)) xs i one
 
-pub divisor-stops : (constant d : ℤ) (factors : List ℤ) (i : ℕ) → d ≡ pos (gcd_all (constant ∷ take i factors)) → d ≡ pos 1 → d ≡ pos (gcd_all (constant ∷ factors))
+pub divisor-stops : (constant d : ℤ) (factors : List ℤ) (i : ℕ) → d ≡ pos (gcd_all (constant ∷ take i factors)) → d ≡ pos 1 → d
+    ≡ pos (gcd_all (constant ∷ factors))
 divisor-stops constant d factors i is one =
     one ∙ ap (λ n. pos n) (sym (gcd_onto-stops (gcd 0 (unsigned_abs constant)) factors i (cc (is, one))))
 

@@ -51,7 +51,8 @@ same_line-Decides a b = (there, back)
         true-both _ _ ((same_shape-Decides a.shape b.shape).1 (ap (λ (l : LineParts). l.shape) same)) (
         true-both _ _ ((same_sets-Decides a.sets b.sets).1 (ap (λ (l : LineParts). l.sets) same)) (
         true-both _ _ ((same_all-Decides a.factors b.factors).1 (ap (λ (l : LineParts). l.factors) same)) (
-        true-both _ _ ((Decides-int_eq a.constant b.constant).1 (ap (λ (l : LineParts). l.constant) same)) ((same_relation-Decides a.relation b.relation).1 (ap (λ (l : LineParts). l.relation) same)))))
+        true-both _ _ ((Decides-int_eq a.constant b.constant).1 (ap (λ (l : LineParts). l.constant) same))
+        ((same_relation-Decides a.relation b.relation).1 (ap (λ (l : LineParts). l.relation) same)))))
 
 same_numbered-Decides : (a b : ℕ × LineParts) → Decides (same_numbered a b) (a ≡ b)
 same_numbered-Decides a b = (there, back)
@@ -64,7 +65,8 @@ same_numbered-Decides a b = (there, back)
         λ i. (number_is i, line_is i)
 
     back : a ≡ b → same_numbered a b ≡ true
-    back same = true-both _ _ ((Decides-eqb a.0 b.0).1 (ap (λ (e : ℕ × LineParts). e.0) same)) ((same_line-Decides a.1 b.1).1 (ap (λ (e : ℕ × LineParts). e.1) same))
+    back same = true-both _ _ ((Decides-eqb a.0 b.0).1 (ap (λ (e : ℕ × LineParts). e.0) same))
+        ((same_line-Decides a.1 b.1).1 (ap (λ (e : ℕ × LineParts). e.1) same))
 
 pub same_edits-Decides : (a b : EditsParts) → Decides (same_edits a b) (a ≡ b)
 same_edits-Decides a b = (there, back)
@@ -79,7 +81,8 @@ same_edits-Decides a b = (there, back)
     back : a ≡ b → same_edits a b ≡ true
     back same =
         true-both _ _ ((same_shape-Decides a.shape b.shape).1 (ap (λ (e : EditsParts). e.shape) same))
-        ((slice_eq-Decides {E = same_numbered} same_numbered-Decides a.lines b.lines (pointwise same_numbered a.lines b.lines) refl).1 (ap (λ (e : EditsParts). e.lines) same))
+        ((slice_eq-Decides {E = same_numbered} same_numbered-Decides a.lines b.lines (pointwise same_numbered a.lines b.lines) refl).1
+        (ap (λ (e : EditsParts). e.lines) same))
 
 -- ---- shapes by their numbers of codes
 

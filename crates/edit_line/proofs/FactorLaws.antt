@@ -23,13 +23,15 @@ beside-absent [] factors f absent = refl
 beside-absent (i ∷ fields) [] f absent = refl
 beside-absent (i ∷ fields) (a ∷ factors) f absent = by (i == f) absent (beside-absent fields factors f)
   where
-    by : (b : Bool) → (b || has_field fields f) ≡ false → (has_field fields f ≡ false → beside (pos 0) fields factors f ≡ pos 0) → (if b then a else beside (pos 0) fields factors f) ≡ pos 0
+    by : (b : Bool) → (b || has_field fields f) ≡ false → (has_field fields f ≡ false → beside (pos 0) fields factors f ≡ pos 0)
+        → (if b then a else beside (pos 0) fields factors f) ≡ pos 0
     by true h rest = absurd (cc)
     by false h rest = rest h
 
 -- a field with a factor other than 0 is numerical
 pub factor-numerical : (line : LineParts) (f : ℕ) → factor line f ≢ pos 0 → has_field (number_fields line.shape) f ≡ true
-factor-numerical line f stands = by_test (has_field (number_fields line.shape) f) (λ there. there) (λ absent. absurd (stands (beside-absent (number_fields line.shape) line.factors f absent)))
+factor-numerical line f stands = by_test (has_field (number_fields line.shape) f) (λ there. there)
+    (λ absent. absurd (stands (beside-absent (number_fields line.shape) line.factors f absent)))
 
 -- ---- facts of the fields that stand in a line, by their factors
 
@@ -44,9 +46,11 @@ beside-before : (i : ℕ) (shape : List Domain) (factors : List ℤ) (f : ℕ) �
 beside-before i [] factors f less = refl
 beside-before i (Categorical k ∷ shape) factors f less = beside-before (suc i) shape factors f (omega arith)
 beside-before i (Numerical ∷ shape) [] f less = refl
-beside-before i (Numerical ∷ shape) (a ∷ factors) f less = ap (λ b. if b then a else beside (pos 0) (numbers_from (suc i) shape) factors f) (before i f less) ∙ beside-before (suc i) shape factors f (omega arith)
+beside-before i (Numerical ∷ shape) (a ∷ factors) f less = ap (λ b. if b then a else beside (pos 0) (numbers_from (suc i) shape) factors f) (before i f less)
+    ∙ beside-before (suc i) shape factors f (omega arith)
 
-from-factors : (P : ℕ → Type 0) (i : ℕ) (shape : List Domain) (factors : List ℤ) → ((f : ℕ) → beside (pos 0) (numbers_from i shape) factors f ≢ pos 0 → P f) → AtFactors P (numbers_from i shape) factors
+from-factors : (P : ℕ → Type 0) (i : ℕ) (shape : List Domain) (factors : List ℤ) → ((f : ℕ) → beside (pos 0) (numbers_from i shape) factors f ≢ pos 0 → P f)
+    → AtFactors P (numbers_from i shape) factors
 from-factors P i [] factors each = tt
 from-factors P i (Categorical k ∷ shape) factors each = from-factors P (suc i) shape factors each
 from-factors P i (Numerical ∷ shape) [] each = tt
@@ -58,7 +62,8 @@ from-factors P i (Numerical ∷ shape) (a ∷ factors) each = (λ stands. each i
     later : (f : ℕ) → beside (pos 0) (numbers_from (suc i) shape) factors f ≢ pos 0 → P f
     later f stands = each f (λ none. stands (by (i == f) (Decides-eqb i f).0 none))
       where
-        by : (b : Bool) → (b ≡ true → i ≡ f) → (if b then a else beside (pos 0) (numbers_from (suc i) shape) factors f) ≡ pos 0 → beside (pos 0) (numbers_from (suc i) shape) factors f ≡ pos 0
+        by : (b : Bool) → (b ≡ true → i ≡ f) → (if b then a else beside (pos 0) (numbers_from (suc i) shape) factors f) ≡ pos 0
+            → beside (pos 0) (numbers_from (suc i) shape) factors f ≡ pos 0
         by true same h = beside-before (suc i) shape factors f (omega (arith, same refl))
         by false same h = h
 
@@ -81,25 +86,30 @@ factor-at P line f at stands = at-beside P (number_fields line.shape) line.facto
 
 -- ---- the test of the fields that stand in a line
 
-pub AtFactors-only : (test : ℕ → Bool) (fields : List ℕ) (factors : List ℤ) → stands_only test fields factors ≡ true → AtFactors (λ f. test f ≡ true) fields factors
+pub AtFactors-only : (test : ℕ → Bool) (fields : List ℕ) (factors : List ℤ) → stands_only test fields factors ≡ true
+    → AtFactors (λ f. test f ≡ true) fields factors
 AtFactors-only test [] factors only = tt
 AtFactors-only test (f ∷ fields) [] only = tt
 AtFactors-only test (f ∷ fields) (a ∷ factors) only =
-    let (here, rest) = both_true (int_eq a (pos 0) || test f) _ only in (λ stands. by (int_eq a (pos 0)) (λ none. stands ((Decides-int_eq a (pos 0)).0 none)) here, AtFactors-only test fields factors rest)
+    let (here, rest) = both_true (int_eq a (pos 0) || test f) _ only in
+    (λ stands. by (int_eq a (pos 0)) (λ none. stands ((Decides-int_eq a (pos 0)).0 none)) here, AtFactors-only test fields factors rest)
   where
     by : (none : Bool) → (none ≡ true → ⊥) → (none || test f) ≡ true → test f ≡ true
     by true stands h = absurd (stands refl)
     by false stands h = h
 
-pub only-AtFactors : (test : ℕ → Bool) (fields : List ℕ) (factors : List ℤ) → AtFactors (λ f. test f ≡ true) fields factors → stands_only test fields factors ≡ true
+pub only-AtFactors : (test : ℕ → Bool) (fields : List ℕ) (factors : List ℤ) → AtFactors (λ f. test f ≡ true) fields factors → stands_only test fields factors
+    ≡ true
 only-AtFactors test [] factors at = refl
 only-AtFactors test (f ∷ fields) [] at = refl
-only-AtFactors test (f ∷ fields) (a ∷ factors) at = true-both _ _ (here (int_eq a (pos 0)) (Decides-int_eq a (pos 0)).1) (only-AtFactors test fields factors at.1)
+only-AtFactors test (f ∷ fields) (a ∷ factors) at = true-both _ _ (here (int_eq a (pos 0)) (Decides-int_eq a (pos 0)).1)
+    (only-AtFactors test fields factors at.1)
   where
     here : (none : Bool) → (a ≡ pos 0 → none ≡ true) → (none || test f) ≡ true
     here true is = refl
     here false is = at.0 (λ zero_is. absurd (cc (is zero_is)))
 
 -- where only fields that pass the test stand in a line, a field with a factor other than 0 passes it
-pub only-passes : (test : ℕ → Bool) (line : LineParts) (f : ℕ) → stands_only test (number_fields line.shape) line.factors ≡ true → factor line f ≢ pos 0 → test f ≡ true
+pub only-passes : (test : ℕ → Bool) (line : LineParts) (f : ℕ) → stands_only test (number_fields line.shape) line.factors ≡ true → factor line f ≢ pos 0
+    → test f ≡ true
 only-passes test line f only stands = factor-at (λ g. test g ≡ true) line f (AtFactors-only test (number_fields line.shape) line.factors only) stands

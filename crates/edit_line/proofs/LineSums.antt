@@ -1,4 +1,5 @@
-use Rattle.std.proofs.Common.{◌≡◌, ℕ, zero, suc, ◌+◌, ◌<◌, not, nat_eq, Bool, true, false, if◌then◌else◌, List, [], ◌∷◌, ◌++◌, All, length, bit_and, Option, Some, None, ℤ, ◌+ℤ◌, ◌*ℤ◌, refl, sym, ap, ◌∙◌, subst, arith}
+use Rattle.std.proofs.Common.{◌≡◌, ℕ, zero, suc, ◌+◌, ◌<◌, not, nat_eq, Bool, true, false, if◌then◌else◌, List, [], ◌∷◌, ◌++◌, All, length, bit_and, Option}
+use Rattle.std.proofs.Common.{Some, None, ℤ, ◌+ℤ◌, ◌*ℤ◌, refl, sym, ap, ◌∙◌, subst, arith}
 use Rattle.std.proofs.lemmas.Nat.{and_le_l}
 use Rattle.fraction128.specs.Range.{InRange}
 use Rattle.edit_line.specs.Lines.{IsLine, LineParts, parts_of}
@@ -19,7 +20,8 @@ last_overflow (Some place) fits k = Some place
 last_overflow None true k = None
 last_overflow None false k = Some k
 
-overflow-last : (m n a b : ℤ) (i : ℕ) (first second : List ℤ) → length first ≡ length second → first_overflow i m n (first ++ a ∷ []) (second ++ b ∷ []) ≡ last_overflow (first_overflow i m n first second) (sum_fits m n a b) (i + length first)
+overflow-last : (m n a b : ℤ) (i : ℕ) (first second : List ℤ) → length first ≡ length second → first_overflow i m n (first ++ a ∷ []) (second ++ b ∷ [])
+    ≡ last_overflow (first_overflow i m n first second) (sum_fits m n a b) (i + length first)
 overflow-last m n a b i [] [] same = by (sum_fits m n a b)
   where
     by : (fits : Bool) → (if fits then None else Some i) ≡ last_overflow None fits (i + 0)
@@ -29,8 +31,10 @@ overflow-last m n a b i [] (y ∷ second) same = absurd (omega arith)
 overflow-last m n a b i (x ∷ first) [] same = absurd (omega arith)
 overflow-last m n a b i (x ∷ first) (y ∷ second) same = by (sum_fits m n x y) (overflow-last m n a b (suc i) first second (omega arith))
   where
-    by : (fits : Bool) → first_overflow (suc i) m n (first ++ a ∷ []) (second ++ b ∷ []) ≡ last_overflow (first_overflow (suc i) m n first second) (sum_fits m n a b) (suc i + length first)
-        → (if fits then first_overflow (suc i) m n (first ++ a ∷ []) (second ++ b ∷ []) else Some i) ≡ last_overflow (if fits then first_overflow (suc i) m n first second else Some i) (sum_fits m n a b) (i + suc (length first))
+    by : (fits : Bool) → first_overflow (suc i) m n (first ++ a ∷ []) (second ++ b ∷ []) ≡ last_overflow (first_overflow (suc i) m n first second)
+        (sum_fits m n a b) (suc i + length first)
+        → (if fits then first_overflow (suc i) m n (first ++ a ∷ []) (second ++ b ∷ []) else Some i)
+        ≡ last_overflow (if fits then first_overflow (suc i) m n first second else Some i) (sum_fits m n a b) (i + suc (length first))
     by true rest = rest ∙ ap (λ k. last_overflow (first_overflow (suc i) m n first second) (sum_fits m n a b) k) (omega arith)
     by false rest = refl
 
@@ -41,7 +45,8 @@ above-not_zero zero h = absurd (cc)
 above-not_zero (suc n) h = omega arith
 
 -- sets that meet have their own codes in common
-pub AreSets-meets : (first second wholes : List ℕ) → AreSets first wholes → AreSets second wholes → all_meet first second ≡ true → AreSets (in_both first second) wholes
+pub AreSets-meets : (first second wholes : List ℕ) → AreSets first wholes → AreSets second wholes → all_meet first second ≡ true
+    → AreSets (in_both first second) wholes
 AreSets-meets [] [] [] p q meet = tt
 AreSets-meets [] (t ∷ second) [] p q meet = absurd q
 AreSets-meets (s ∷ first) [] [] p q meet = absurd p
@@ -53,20 +58,27 @@ AreSets-meets (s ∷ first) (t ∷ second) (w ∷ wholes) p q meet =
     (above-not_zero (bit_and s t) both.0, omega (arith, and_le_l s t, p.1), AreSets-meets first second wholes p.2 q.2 both.1)
 
 -- the sum of multiples of two lines, made of its parts
-pub sum-is : (shape : List Domain) (m n constant : ℤ) (s t : LineParts) (sets : List ℕ) (factors : List ℤ) (relation : Relation) → s.shape ≡ shape → sets ≡ in_both s.sets t.sets → factors ≡ combined m n s.factors t.factors
+pub sum-is : (shape : List Domain) (m n constant : ℤ) (s t : LineParts) (sets : List ℕ) (factors : List ℤ) (relation : Relation) → s.shape ≡ shape → sets
+    ≡ in_both s.sets t.sets → factors ≡ combined m n s.factors t.factors
     → constant ≡ m *ℤ s.constant +ℤ n *ℤ t.constant → relation ≡ joined s.relation t.relation → parts_of shape sets factors constant relation ≡ sum_of m n s t
-sum-is shape m n constant s t sets factors relation s_over sets_are factors_are constant_is relation_is = λ i. parts_of (sym s_over i) (sets_are i) (factors_are i) (constant_is i) (relation_is i)
+sum-is shape m n constant s t sets factors relation s_over sets_are factors_are constant_is relation_is =
+    λ i. parts_of (sym s_over i) (sets_are i) (factors_are i) (constant_is i) (relation_is i)
 
 -- and it is a line
-pub sum-line : (shape : List Domain) (constant : ℤ) (s t : LineParts) (sets : List ℕ) (factors : List ℤ) (relation : Relation) → s.shape ≡ shape → t.shape ≡ shape → sets ≡ in_both s.sets t.sets → relation ≡ joined s.relation t.relation → IsLine s
-    → IsLine t → all_meet s.sets t.sets ≡ true → length factors ≡ length (number_fields shape) → All InRange factors → InRange constant → IsLine (parts_of shape sets factors constant relation)
+pub sum-line : (shape : List Domain) (constant : ℤ) (s t : LineParts) (sets : List ℕ) (factors : List ℤ) (relation : Relation) → s.shape ≡ shape → t.shape
+    ≡ shape → sets ≡ in_both s.sets t.sets → relation ≡ joined s.relation t.relation → IsLine s
+    → IsLine t → all_meet s.sets t.sets ≡ true → length factors ≡ length (number_fields shape) → All InRange factors → InRange constant
+    → IsLine (parts_of shape sets factors constant relation)
 sum-line shape constant s t sets factors relation s_over t_over sets_are relation_is s_line t_line meet count all fits = record {
-  sets = subst (λ (xs : List ℕ). AreSets xs (whole_sets shape)) (sym sets_are) (AreSets-meets s.sets t.sets (whole_sets shape) (subst (λ (sh : List Domain). AreSets s.sets (whole_sets sh)) s_over s_line.sets) (subst (λ (sh : List Domain). AreSets t.sets (whole_sets sh)) t_over t_line.sets) meet);
+  sets = subst (λ (xs : List ℕ). AreSets xs (whole_sets shape)) (sym sets_are) (AreSets-meets s.sets t.sets (whole_sets shape)
+      (subst (λ (sh : List Domain). AreSets s.sets (whole_sets sh)) s_over s_line.sets) (subst (λ (sh : List Domain). AreSets t.sets (whole_sets sh)) t_over
+      t_line.sets) meet);
   factors = count;
   in_range = (all, fits);
   whole = λ equal.
       let (s_equal, t_equal) = joined-equal s.relation t.relation (sym relation_is ∙ equal) in
-      sets_are ∙ (λ i. in_both (s_line.whole s_equal i) (t_line.whole t_equal i)) ∙ (λ i. in_both (whole_sets (s_over i)) (whole_sets (t_over i))) ∙ in_both-same (whole_sets shape);
+      sets_are ∙ (λ i. in_both (s_line.whole s_equal i) (t_line.whole t_equal i)) ∙ (λ i. in_both (whole_sets (s_over i)) (whole_sets (t_over i)))
+      ∙ in_both-same (whole_sets shape);
 }
 
 -- ---- the first place of all, by that among the factors
@@ -75,7 +87,8 @@ module _ (m n : ℤ) (s t : LineParts) (xs ys : List ℤ) (xs_are : xs ≡ s.fac
   longer : first_overflow 0 m n (numbers s) (numbers t) ≡ last_overflow (first_overflow 0 m n xs ys) (sum_fits m n s.constant t.constant) (length xs)
   longer =
       (λ i. first_overflow 0 m n (sym xs_are i ++ s.constant ∷ []) (sym ys_are i ++ t.constant ∷ []))
-      ∙ overflow-last m n s.constant t.constant 0 xs ys same ∙ ap (λ k. last_overflow (first_overflow 0 m n xs ys) (sum_fits m n s.constant t.constant) k) from_none
+      ∙ overflow-last m n s.constant t.constant 0 xs ys same ∙ ap (λ k. last_overflow (first_overflow 0 m n xs ys) (sum_fits m n s.constant t.constant) k)
+      from_none
     where
       from_none : 0 + length xs ≡ length xs
       from_none = omega arith
@@ -85,7 +98,8 @@ module _ (m n : ℤ) (s t : LineParts) (xs ys : List ℤ) (xs_are : xs ≡ s.fac
   place-first k is = sym (longer ∙ ap (λ o. last_overflow o (sum_fits m n s.constant t.constant) (length xs)) (sym is))
 
   -- else the constant decides
-  module _ (none : None ≡ first_overflow 0 m n xs ys) (a b : ℤ) (sum : Option ℤ) (a_is : a ≡ s.constant) (b_is : b ≡ t.constant) (sum_is : sum ≡ (if sum_fits m n a b then Some (m *ℤ a +ℤ n *ℤ b) else None)) where
+  module _ (none : None ≡ first_overflow 0 m n xs ys) (a b : ℤ) (sum : Option ℤ) (a_is : a ≡ s.constant) (b_is : b ≡ t.constant)
+      (sum_is : sum ≡ (if sum_fits m n a b then Some (m *ℤ a +ℤ n *ℤ b) else None)) where
     last : first_overflow 0 m n (numbers s) (numbers t) ≡ last_overflow None (sum_fits m n s.constant t.constant) (length xs)
     last = longer ∙ ap (λ o. last_overflow o (sum_fits m n s.constant t.constant) (length xs)) (sym none)
 

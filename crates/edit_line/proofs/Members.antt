@@ -1,4 +1,5 @@
-use Rattle.std.proofs.Common.{◌≡◌, ℕ, zero, suc, ◌++◌, ◌||◌, Bool, true, false, if◌then◌else◌, List, [], ◌∷◌, All, Some, map, slice_get, ◌⊎◌, inl, inr, refl, sym, ap, ◌∙◌, subst, arith}
+use Rattle.std.proofs.Common.{◌≡◌, ℕ, zero, suc, ◌++◌, ◌||◌, Bool, true, false, if◌then◌else◌, List, [], ◌∷◌, All, Some, map, slice_get, ◌⊎◌, inl, inr, refl}
+use Rattle.std.proofs.Common.{sym, ap, ◌∙◌, subst, arith}
 use Rattle.std.specs.List.{filter, flat_map, fold, list_any}
 use Rattle.edit_line.specs.Reductions.{IsIn}
 use Rattle.edit_line.proofs.BoolLaws.{true-first, true-second}
@@ -61,13 +62,15 @@ pub in-filter-out : {X : Type 0} (test : X → Bool) (x : X) (xs : List X) → I
 in-filter-out test x [] h = absurd h
 in-filter-out test x (y ∷ ys) h = by (test y) refl (in-filter-out test x ys) h
   where
-    by : (b : Bool) → test y ≡ b → (IsIn x (filter test ys) → IsIn x ys × (test x ≡ true)) → IsIn x (if b then y ∷ filter test ys else filter test ys) → IsIn x (y ∷ ys) × (test x ≡ true)
+    by : (b : Bool) → test y ≡ b → (IsIn x (filter test ys) → IsIn x ys × (test x ≡ true)) → IsIn x (if b then y ∷ filter test ys else filter test ys)
+        → IsIn x (y ∷ ys) × (test x ≡ true)
     by true e rest (inl same) = (inl same, ap test same ∙ e)
     by true e rest (inr there) = let (was, passes) = rest there in (inr was, passes)
     by false e rest there = let (was, passes) = rest there in (inr was, passes)
 
 -- what is in a list after an element is left out, or taken in and others dropped, was there or is that element
-pub in-taken : {X : Type 0} (left_out : Bool) (stays : X → Bool) (x new : X) (kept : List X) → IsIn x (if left_out then kept else filter stays kept ++ new ∷ []) → IsIn x kept ⊎ (x ≡ new)
+pub in-taken : {X : Type 0} (left_out : Bool) (stays : X → Bool) (x new : X) (kept : List X) → IsIn x (if left_out then kept else filter stays kept ++ new ∷ [])
+    → IsIn x kept ⊎ (x ≡ new)
 in-taken true stays x new kept there = inl there
 in-taken false stays x new kept there = elim (in-either x (filter stays kept) (new ∷ []) there) [
   | inl old ↦ inl (in-filter-out stays x kept old).0
@@ -109,7 +112,8 @@ pub in-any : {X : Type 0} (test : X → Bool) (xs : List X) → list_any test xs
 in-any test [] h = absurd (cc)
 in-any {X} test (y ∷ ys) h = by (test y) refl (in-any test ys) h
   where
-    by : (b : Bool) → test y ≡ b → (list_any test ys ≡ true → (x : X) × IsIn x ys × (test x ≡ true)) → (b || list_any test ys) ≡ true → (x : X) × IsIn x (y ∷ ys) × (test x ≡ true)
+    by : (b : Bool) → test y ≡ b → (list_any test ys ≡ true → (x : X) × IsIn x ys × (test x ≡ true)) → (b || list_any test ys) ≡ true → (x : X)
+        × IsIn x (y ∷ ys) × (test x ≡ true)
     by true e rest any = (y, inl refl, e)
     by false e rest any = let (x, there, passes) = rest any in (x, inr there, passes)
 

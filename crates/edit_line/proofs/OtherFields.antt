@@ -1,4 +1,5 @@
-use Rattle.std.proofs.Common.{◌≡◌, ℕ, zero, suc, ◌<◌, ◌≤◌, ◌&&◌, not, nat_eq, Bool, true, false, List, [], ◌∷◌, length, bit_and, slice_index_or, slice_set, refl, sym, ap, ◌∙◌, arith}
+use Rattle.std.proofs.Common.{◌≡◌, ℕ, zero, suc, ◌<◌, ◌≤◌, ◌&&◌, not, nat_eq, Bool, true, false, List, [], ◌∷◌, length, bit_and, slice_index_or, slice_set}
+use Rattle.std.proofs.Common.{refl, sym, ap, ◌∙◌, arith}
 use Rattle.std.specs.Bool.{Decides, one_answer}
 use Rattle.std.specs.Int.{bit_at}
 use Rattle.std.proofs.lemmas.Bool.Decides.{Decides-eqb}
@@ -23,7 +24,8 @@ has-and s t code = by (has_code s code) (has_code t code) (Decides-eqb (bit_at s
     by a b p q =
         one_answer (has_code (bit_and s t) code) (a && b) (Decides-eqb (bit_at (bit_and s t) code) 1) (
           λ h. let (first, second) = both_true a b h in omega (arith, bit_at_and s t code, p.0 first, q.0 second),
-          λ h. true-both a b (p.1 (omega (arith, bit_at_and s t code, bit_at-lt s code, bit_at-lt t code, h))) (q.1 (omega (arith, bit_at_and s t code, bit_at-lt s code, bit_at-lt t code, h))),
+          λ h. true-both a b (p.1 (omega (arith, bit_at_and s t code, bit_at-lt s code, bit_at-lt t code, h)))
+              (q.1 (omega (arith, bit_at_and s t code, bit_at-lt s code, bit_at-lt t code, h))),
         )
 
 crossed : (a b c d : Bool) → ((a && b) && (c && d)) ≡ ((a && c) && (b && d))
@@ -42,7 +44,8 @@ inside-meets [] second codes = refl
 inside-meets (s ∷ first) [] codes = sym (and_true _)
 inside-meets (s ∷ first) (t ∷ second) [] = refl
 inside-meets (s ∷ first) (t ∷ second) (code ∷ codes) =
-    ap (λ b. b && are_codes_in (in_both first second) codes) (has-and s t code) ∙ ap (λ b. (has_code s code && has_code t code) && b) (inside-meets first second codes)
+    ap (λ b. b && are_codes_in (in_both first second) codes) (has-and s t code) ∙ ap (λ b. (has_code s code && has_code t code) && b)
+    (inside-meets first second codes)
     ∙ crossed (has_code s code) (has_code t code) (are_codes_in first codes) (are_codes_in second codes)
 
 -- and so on the other fields
@@ -55,7 +58,8 @@ inside_but-meets (suc place) whole (s ∷ first) (t ∷ second) [] = refl
 inside_but-meets zero whole (s ∷ first) (t ∷ second) (code ∷ codes) =
     ap (λ b. has_code whole code && b) (inside-meets first second codes) ∙ shared (has_code whole code) (are_codes_in first codes) (are_codes_in second codes)
 inside_but-meets (suc place) whole (s ∷ first) (t ∷ second) (code ∷ codes) =
-    ap (λ b. b && inside_but place whole codes (in_both first second)) (has-and s t code) ∙ ap (λ b. (has_code s code && has_code t code) && b) (inside_but-meets place whole first second codes)
+    ap (λ b. b && inside_but place whole codes (in_both first second)) (has-and s t code) ∙ ap (λ b. (has_code s code && has_code t code) && b)
+    (inside_but-meets place whole first second codes)
     ∙ crossed (has_code s code) (has_code t code) (inside_but place whole codes first) (inside_but place whole codes second)
 
 -- made whole once more
@@ -77,7 +81,8 @@ inside-with place whole code [] codes below within all = absurd (omega arith)
 inside-with place whole code (s ∷ box) [] below within all = absurd (omega arith)
 inside-with zero whole code (s ∷ box) (c ∷ codes) below within all = ap (λ b. has_code s code && (b && are_codes_in box codes)) (sym all)
 inside-with (suc place) whole code (s ∷ box) (c ∷ codes) below within all =
-    ap (λ b. has_code s c && b) (inside-with place whole code box codes (omega arith) (omega arith) all) ∙ swapped (has_code s c) (has_code (slice_index_or box place 0) code) (inside_but place whole codes box)
+    ap (λ b. has_code s c && b) (inside-with place whole code box codes (omega arith) (omega arith) all)
+    ∙ swapped (has_code s c) (has_code (slice_index_or box place 0) code) (inside_but place whole codes box)
   where
     swapped : (a b c : Bool) → (a && (b && c)) ≡ (b && (a && c))
     swapped true b c = refl
@@ -99,7 +104,8 @@ inside-grows (s ∷ first) (t ∷ second) (code ∷ codes) lie inside =
     true-both _ _ (has-more s t code here at) (inside-grows first second codes rest after)
 
 -- and so on the other fields
-pub inside_but-grows : (place whole : ℕ) (first second codes : List ℕ) → are_subsets first second ≡ true → inside_but place whole codes first ≡ true → inside_but place whole codes second ≡ true
+pub inside_but-grows : (place whole : ℕ) (first second codes : List ℕ) → are_subsets first second ≡ true → inside_but place whole codes first ≡ true
+    → inside_but place whole codes second ≡ true
 inside_but-grows place whole first [] codes lie inside = refl
 inside_but-grows place whole [] (t ∷ second) codes lie inside = absurd (cc)
 inside_but-grows zero whole (s ∷ first) (t ∷ second) [] lie inside = refl
@@ -117,7 +123,8 @@ inside_but-grows (suc place) whole (s ∷ first) (t ∷ second) (code ∷ codes)
 pub inside-has_codes : (box codes : List ℕ) → length box ≤ length codes → are_codes_in box codes ≡ true → none_is_empty box ≡ true
 inside-has_codes [] codes few inside = refl
 inside-has_codes (s ∷ box) [] few inside = absurd (omega arith)
-inside-has_codes (s ∷ box) (code ∷ codes) few inside = let (at, rest) = both_true _ _ inside in true-both _ _ (above s at) (inside-has_codes box codes (omega arith) rest)
+inside-has_codes (s ∷ box) (code ∷ codes) few inside = let (at, rest) = both_true _ _ inside in
+    true-both _ _ (above s at) (inside-has_codes box codes (omega arith) rest)
   where
     above : (s : ℕ) → has_code s code ≡ true → not (nat_eq s 0) ≡ true
     above s h = by (nat_eq s 0) refl

@@ -46,17 +46,20 @@ left-apart : (new : LineParts) (lines : List LineParts) → list_any (λ a. subs
 left-apart new [] none = tt
 left-apart new (a ∷ lines) none = by (subsumes new a) refl (left-apart new lines (false-both _ _ none).1)
   where
-    by : (t : Bool) → subsumes new a ≡ t → AllApart new (filter (λ b. not (subsumes new b)) lines) → AllApart new (if not t then a ∷ filter (λ b. not (subsumes new b)) lines else filter (λ b. not (subsumes new b)) lines)
+    by : (t : Bool) → subsumes new a ≡ t → AllApart new (filter (λ b. not (subsumes new b)) lines)
+        → AllApart new (if not t then a ∷ filter (λ b. not (subsumes new b)) lines else filter (λ b. not (subsumes new b)) lines)
     by true test more = more
     by false test more = (((false-both _ _ none).0, test), more)
 
 own-with : (kept : List LineParts) (new : LineParts) → AreOwn kept → AreOwn (with_line kept new)
 own-with kept new own = by (is_trivial new) (list_any (λ a. subsumes a new) kept) refl refl
   where
-    by : (t s : Bool) → is_trivial new ≡ t → list_any (λ a. subsumes a new) kept ≡ s → AreOwn (if t || s then kept else filter (λ b. not (subsumes new b)) kept ++ new ∷ [])
+    by : (t s : Bool) → is_trivial new ≡ t → list_any (λ a. subsumes a new) kept ≡ s → AreOwn (if t || s then kept else filter (λ b. not (subsumes new b)) kept
+        ++ new ∷ [])
     by true s says none = own
     by false true says none = own
-    by false false says none = own-last new (filter (λ b. not (subsumes new b)) kept) (own-filter (λ b. not (subsumes new b)) kept own) (left-apart new kept none) says
+    by false false says none = own-last new (filter (λ b. not (subsumes new b)) kept) (own-filter (λ b. not (subsumes new b)) kept own)
+        (left-apart new kept none) says
 
 own-fold : (kept lines : List LineParts) → AreOwn kept → AreOwn (fold with_line kept lines)
 own-fold kept [] own = own
@@ -96,7 +99,8 @@ all-stay new (a ∷ kept) ((here, back), rest) = by (subsumes new a.line) back (
 with-own : (kept : List Derived) (new : Derived) → AllApart new.line (lines_of kept) → is_trivial new.line ≡ false → with_derived kept new ≡ kept ++ new ∷ []
 with-own kept new apart says = by (is_trivial new.line) (list_any (λ (a : Derived). subsumes a.line new.line) kept) says (any-apart new.line kept apart)
   where
-    by : (t s : Bool) → t ≡ false → s ≡ false → (if t || s then kept else filter (λ (b : Derived). not (subsumes new.line b.line)) kept ++ new ∷ []) ≡ kept ++ new ∷ []
+    by : (t s : Bool) → t ≡ false → s ≡ false → (if t || s then kept else filter (λ (b : Derived). not (subsumes new.line b.line)) kept ++ new ∷ []) ≡ kept
+        ++ new ∷ []
     by true s e h = absurd (cc)
     by false true e h = absurd (cc)
     by false false e h = ap (λ (ds : List Derived). ds ++ new ∷ []) (all-stay new.line kept apart)
@@ -106,8 +110,10 @@ folded-own kept [] own = sym (append-nil kept)
 folded-own kept (new ∷ lines) own =
     let (apart, says) = own-there new.line (lines_of kept) (lines_of lines) own in
     let more : AreOwn (lines_of (kept ++ new ∷ []) ++ lines_of lines) =
-    subst (λ (ls : List LineParts). AreOwn ls) (sym (ap (λ (ls : List LineParts). ls ++ lines_of lines) (lines_of-append kept (new ∷ [])) ∙ append_assoc (lines_of kept) (new.line ∷ []) (lines_of lines))) own in
-    ap (λ (ds : List Derived). fold with_derived ds lines) (with-own kept new apart says) ∙ folded-own (kept ++ new ∷ []) lines more ∙ append_assoc kept (new ∷ []) lines
+    subst (λ (ls : List LineParts). AreOwn ls) (sym (ap (λ (ls : List LineParts). ls ++ lines_of lines) (lines_of-append kept (new ∷ []))
+    ∙ append_assoc (lines_of kept) (new.line ∷ []) (lines_of lines))) own in
+    ap (λ (ds : List Derived). fold with_derived ds lines) (with-own kept new apart says) ∙ folded-own (kept ++ new ∷ []) lines more
+    ∙ append_assoc kept (new ∷ []) lines
 
 pub reduce-own : (lines : List Derived) → AreOwn (lines_of lines) → reduce_derived lines ≡ lines
 reduce-own lines own = folded-own [] lines own

@@ -63,7 +63,8 @@ bound_is Above apart = refl
 bound_is Equal apart = absurd (cc)
 
 -- and so of two
-pub bounds_joined : (first second : Relation) → is_equal first ≡ false → is_equal second ≡ false → joined first second ≡ bound_relation (is_above first || is_above second)
+pub bounds_joined : (first second : Relation) → is_equal first ≡ false → is_equal second ≡ false → joined first second
+    ≡ bound_relation (is_above first || is_above second)
 bounds_joined AtLeast AtLeast one two = refl
 bounds_joined AtLeast Above one two = refl
 bounds_joined Above AtLeast one two = refl

@@ -1,4 +1,5 @@
-use Rattle.std.proofs.Common.{◌≡◌, ℕ, zero, suc, ◌+◌, ◌<◌, ◌≤◌, ◌&&◌, not, nat_eq, true, false, List, [], ◌∷◌, get_or, length, drop, bit_and, slice_index_or, slice_set, refl, sym, ap, ◌∙◌, add-one, arith}
+use Rattle.std.proofs.Common.{◌≡◌, ℕ, zero, suc, ◌+◌, ◌<◌, ◌≤◌, ◌&&◌, not, nat_eq, true, false, List, [], ◌∷◌, get_or, length, drop, bit_and, slice_index_or}
+use Rattle.std.proofs.Common.{slice_set, refl, sym, ap, ◌∙◌, add-one, arith}
 use Rattle.std.specs.Bool.{Decides}
 use Rattle.std.specs.Int.{bit_at}
 use Rattle.std.proofs.Math.Seq.{drop-cons}
@@ -31,7 +32,8 @@ inside-all_inside (s ∷ first) (t ∷ second) (code ∷ codes) lie inside =
 pub is_inside-Decides : (sets codes : List ℕ) → Decides (are_codes_in sets codes) (AreCodesIn sets codes)
 is_inside-Decides [] codes = (λ _. tt, λ _. refl)
 is_inside-Decides (set ∷ sets) [] = (λ _. tt, λ _. refl)
-is_inside-Decides (set ∷ sets) (code ∷ codes) = both_decide (has_code set code) (are_codes_in sets codes) (Decides-eqb (bit_at set code) 1) (is_inside-Decides sets codes)
+is_inside-Decides (set ∷ sets) (code ∷ codes) = both_decide (has_code set code) (are_codes_in sets codes) (Decides-eqb (bit_at set code) 1)
+    (is_inside-Decides sets codes)
 
 -- ---- a loop over two lists of sets
 
@@ -43,9 +45,11 @@ all_inside-fewer (s ∷ first) (t ∷ second) fewer = ap (λ b. nat_eq (bit_and 
 
 -- from one place on
 pub all_inside-at : (first second : List ℕ) (i : ℕ) → i < length second → length second ≤ length first
-    → are_subsets (drop i first) (drop i second) ≡ (nat_eq (bit_and (get_or first i 0) (get_or second i 0)) (get_or first i 0) && are_subsets (drop (i + 1) first) (drop (i + 1) second))
+    → are_subsets (drop i first) (drop i second)
+    ≡ (nat_eq (bit_and (get_or first i 0) (get_or second i 0)) (get_or first i 0) && are_subsets (drop (i + 1) first) (drop (i + 1) second))
 all_inside-at first second i below many =
-    rw (add-one) (ap (λ ss. are_subsets ss (drop i second)) (drop-cons first i 0 (omega arith)) ∙ ap (λ ts. are_subsets (get_or first i 0 ∷ drop (suc i) first) ts) (drop-cons second i 0 below))
+    rw (add-one) (ap (λ ss. are_subsets ss (drop i second)) (drop-cons first i 0 (omega arith))
+    ∙ ap (λ ts. are_subsets (get_or first i 0 ∷ drop (suc i) first) ts) (drop-cons second i 0 below))
 
 -- past the last set of the second list
 pub all_inside-end : (first second : List ℕ) (i : ℕ) → length second ≤ i → are_subsets (drop i first) (drop i second) ≡ true
@@ -56,11 +60,13 @@ all_inside-end first second i past = ap (λ ts. are_subsets (drop i first) ts) (
     no_more (s ∷ ss) = refl
 
 -- where one set has a code that the other has not, the sets do not lie inside the others
-pub outside_at : (first second : List ℕ) (i : ℕ) → i < length first → i < length second → nat_eq (bit_and (get_or first i 0) (get_or second i 0)) (get_or first i 0) ≡ false → are_subsets first second ≡ false
+pub outside_at : (first second : List ℕ) (i : ℕ) → i < length first → i < length second → nat_eq (bit_and (get_or first i 0) (get_or second i 0))
+    (get_or first i 0) ≡ false → are_subsets first second ≡ false
 outside_at [] second i short below apart = absurd (omega (arith, short))
 outside_at (s ∷ first) [] i short below apart = absurd (omega (arith, below))
 outside_at (s ∷ first) (t ∷ second) zero short below apart = ap (λ b. b && are_subsets first second) apart
-outside_at (s ∷ first) (t ∷ second) (suc i) short below apart = ap (λ b. nat_eq (bit_and s t) s && b) (outside_at first second i (omega (arith, short)) (omega (arith, below)) apart) ∙ and_false _
+outside_at (s ∷ first) (t ∷ second) (suc i) short below apart = ap (λ b. nat_eq (bit_and s t) s && b)
+    (outside_at first second i (omega (arith, short)) (omega (arith, below)) apart) ∙ and_false _
 
 -- ---- sets within their fields' codes
 
@@ -76,7 +82,8 @@ AreWithin-wholes [] = tt
 AreWithin-wholes (w ∷ wholes) = (omega arith, AreWithin-wholes wholes)
 
 -- and stay so where one is made smaller
-pub AreWithin-set : (sets wholes : List ℕ) (place set : ℕ) → set ≤ slice_index_or sets place 0 → AreWithin sets wholes → AreWithin (slice_set sets place set) wholes
+pub AreWithin-set : (sets wholes : List ℕ) (place set : ℕ) → set ≤ slice_index_or sets place 0 → AreWithin sets wholes
+    → AreWithin (slice_set sets place set) wholes
 AreWithin-set [] [] place set smaller within = tt
 AreWithin-set [] (w ∷ wholes) place set smaller within = absurd within
 AreWithin-set (s ∷ sets) [] place set smaller within = absurd within

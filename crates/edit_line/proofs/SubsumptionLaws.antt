@@ -43,15 +43,18 @@ trivial-holds line p trivial =
     let (none, holds) = both_true _ _ trivial in
     record {
       enough = λ inside.
-          subst (λ (z : ℤ). IsEnough line.relation z) (sym (amount-constant line p none)) (IsEnough-times line.relation line.constant p.denominator p.positive ((is_enough-Decides line.relation line.constant).0 holds));
+          subst (λ (z : ℤ). IsEnough line.relation z) (sym (amount-constant line p none)) (IsEnough-times line.relation line.constant p.denominator p.positive
+          ((is_enough-Decides line.relation line.constant).0 holds));
     }
 
 -- a false line holds only where some code is outside its set
 pub false-outside : (line : LineParts) (p : Point) → is_false line ≡ true → LineHolds line p → AreCodesIn line.sets (codes_at line.shape p) → ⊥
 false-outside line p never holds inside =
     let (none, fails) = both_true _ _ never in
-    let at_constant : IsEnough line.relation (line.constant *ℤ p.denominator) = subst (λ (z : ℤ). IsEnough line.relation z) (amount-constant line p none) (holds.enough inside) in
-    let enough : is_enough line.relation line.constant ≡ true = (is_enough-Decides line.relation line.constant).1 (IsEnough_cancel line.relation line.constant p.denominator p.positive at_constant) in
+    let at_constant : IsEnough line.relation (line.constant *ℤ p.denominator) = subst (λ (z : ℤ). IsEnough line.relation z) (amount-constant line p none)
+    (holds.enough inside) in
+    let enough : is_enough line.relation line.constant ≡ true = (is_enough-Decides line.relation line.constant).1
+    (IsEnough_cancel line.relation line.constant p.denominator p.positive at_constant) in
     absurd (not_both (is_enough line.relation line.constant) enough fails)
   where
     not_both : (b : Bool) → b ≡ true → not b ≡ true → ⊥
@@ -64,7 +67,8 @@ further : (w a b d : ℤ) → w +ℤ b *ℤ d ≡ (w +ℤ a *ℤ d) +ℤ (b -ℤ
 further w a b d = rw (parts w, parts a, parts b, parts d) (simp ring (same_dif _ _ _ _ (omega arith)))
 
 -- the constant's part in the test
-tight : (first second : Relation) (w a b d : ℤ) → pos 0 <ℤ d → ((int_lt a b && not (is_equal second)) || (int_eq a b && implies first second)) ≡ true → IsEnough first (w +ℤ a *ℤ d) → IsEnough second (w +ℤ b *ℤ d)
+tight : (first second : Relation) (w a b d : ℤ) → pos 0 <ℤ d → ((int_lt a b && not (is_equal second)) || (int_eq a b && implies first second)) ≡ true
+    → IsEnough first (w +ℤ a *ℤ d) → IsEnough second (w +ℤ b *ℤ d)
 tight first second w a b d above test h = by (int_lt a b) (is_equal second) refl refl test
   where
     less : int_lt a b ≡ true → pos 0 <ℤ (b -ℤ a)
@@ -77,7 +81,8 @@ tight first second w a b d above test h = by (int_lt a b) (is_equal second) refl
         subst (λ (c : ℤ). IsEnough second (w +ℤ c *ℤ d)) is (IsEnough-weaker first second _ stronger h)
 
     by : (l e : Bool) → int_lt a b ≡ l → is_equal second ≡ e → ((l && not e) || (int_eq a b && implies first second)) ≡ true → IsEnough second (w +ℤ b *ℤ d)
-    by true false is apart t = subst (λ (z : ℤ). IsEnough second z) (sym (further w a b d)) (IsEnough-more first second (w +ℤ a *ℤ d) ((b -ℤ a) *ℤ d) apart h (above-* (b -ℤ a) d (less is) above))
+    by true false is apart t = subst (λ (z : ℤ). IsEnough second z) (sym (further w a b d))
+        (IsEnough-more first second (w +ℤ a *ℤ d) ((b -ℤ a) *ℤ d) apart h (above-* (b -ℤ a) d (less is) above))
     by true true is apart t = level t
     by false e is apart t = level t
 
@@ -90,11 +95,13 @@ subsumes-holds a b p shape test holds =
     let (lie, either) = both_true _ _ test in
     record {
       enough = λ inside.
-          let in_a : AreCodesIn a.sets (codes_at a.shape p) = inside-all_inside b.sets a.sets (codes_at a.shape p) lie (subst (λ (s : List Domain). AreCodesIn b.sets (codes_at s p)) shape inside) in
+          let in_a : AreCodesIn a.sets (codes_at a.shape p) = inside-all_inside b.sets a.sets (codes_at a.shape p) lie
+          (subst (λ (s : List Domain). AreCodesIn b.sets (codes_at s p)) shape inside) in
           by (is_false a) refl either in_a;
     }
   where
-    by : (f : Bool) → is_false a ≡ f → (f || (same_all a.factors b.factors && is_tighter a b)) ≡ true → AreCodesIn a.sets (codes_at a.shape p) → IsEnough b.relation (amount b p)
+    by : (f : Bool) → is_false a ≡ f → (f || (same_all a.factors b.factors && is_tighter a b)) ≡ true → AreCodesIn a.sets (codes_at a.shape p)
+        → IsEnough b.relation (amount b p)
     by true never either in_a = absurd (false-outside a p never holds in_a)
     by false _ either in_a =
         let (equal, tighter) = both_true _ _ either in

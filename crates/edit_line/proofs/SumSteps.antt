@@ -1,4 +1,5 @@
-use Rattle.std.proofs.Common.{◌≡◌, ◌≢◌, ℕ, suc, ◌+◌, ◌<◌, ◌≤◌, Bool, true, false, if◌then◌else◌, List, ◌∷◌, get_or, length, drop, Option, Some, None, Result, Ok, Err, ℤ, pos, refl, sym, ap, ◌∙◌, arith, add-one}
+use Rattle.std.proofs.Common.{◌≡◌, ◌≢◌, ℕ, suc, ◌+◌, ◌<◌, ◌≤◌, Bool, true, false, if◌then◌else◌, List, ◌∷◌, get_or, length, drop, Option, Some, None, Result}
+use Rattle.std.proofs.Common.{Ok, Err, ℤ, pos, refl, sym, ap, ◌∙◌, arith, add-one}
 use Rattle.std.specs.Ordering.{int_eq}
 use Rattle.std.proofs.Math.Seq.{drop-cons}
 use Rattle.std.proofs.lemmas.Bool.Decides.{Decides-int_eq}
@@ -28,16 +29,21 @@ next-nothing a v sum is = ap (λ b. if b then Some sum else sum_with sum a v) ((
 
 -- the sum from a place on
 pub sum_from-at : (fields : List ℕ) (factors : List ℤ) (row : List Value) (sum : Ratio) (i e : ℕ) (d : ℤ) → i < length fields → i < length factors
-    → sum_from (drop i fields) (drop i factors) row sum ≡ (ok_or (next_sum (get_or factors i d) (value_of row (get_or fields i e)) sum) (get_or fields i e) >>= (λ next. sum_from (drop (i + 1) fields) (drop (i + 1) factors) row next))
+    → sum_from (drop i fields) (drop i factors) row sum
+    ≡ (ok_or (next_sum (get_or factors i d) (value_of row (get_or fields i e)) sum) (get_or fields i e)
+    >>= (λ next. sum_from (drop (i + 1) fields) (drop (i + 1) factors) row next))
 sum_from-at fields factors row sum i e d below within =
-    rw (add-one) (ap (λ fs. sum_from fs (drop i factors) row sum) (drop-cons fields i e below) ∙ ap (λ (as_ : List ℤ). sum_from (get_or fields i e ∷ drop (suc i) fields) as_ row sum) (drop-cons factors i d within))
+    rw (add-one) (ap (λ fs. sum_from fs (drop i factors) row sum) (drop-cons fields i e below)
+    ∙ ap (λ (as_ : List ℤ). sum_from (get_or fields i e ∷ drop (suc i) fields) as_ row sum) (drop-cons factors i d within))
 
 -- past the last field the sum is whole
-pub sum_from-end : (fields : List ℕ) (factors : List ℤ) (row : List Value) (sum : Ratio) (i : ℕ) → length fields ≤ i → sum_from (drop i fields) (drop i factors) row sum ≡ Ok sum
+pub sum_from-end : (fields : List ℕ) (factors : List ℤ) (row : List Value) (sum : Ratio) (i : ℕ) → length fields ≤ i
+    → sum_from (drop i fields) (drop i factors) row sum ≡ Ok sum
 sum_from-end fields factors row sum i past = ap (λ fs. sum_from fs (drop i factors) row sum) (drop_all i fields past)
 
 -- what is answered for a factor times a value is the next sum
-module _ {E : Type 0} (a given : ℤ) (v read : Value) (sum : Ratio) (r : Result Fraction E) (apart : a ≢ pos 0) (same : given ≡ a) (is : read ≡ v) (answer : answered r ≡ sum_with sum given read) where
+module _ {E : Type 0} (a given : ℤ) (v read : Value) (sum : Ratio) (r : Result Fraction E) (apart : a ≢ pos 0) (same : given ≡ a) (is : read ≡ v)
+    (answer : answered r ≡ sum_with sum given read) where
   by_answer : next_sum a v sum ≡ answered r
   by_answer = next-product a v sum apart ∙ sym (answer ∙ ap (λ (k : ℤ). sum_with sum k read) same ∙ ap (λ (w : Value). sum_with sum a w) is)
 
@@ -49,18 +55,24 @@ module _ {E : Type 0} (a given : ℤ) (v read : Value) (sum : Ratio) (r : Result
 
 -- ---- a loop over the fields and the factors of a line
 
-module _ (fields : List ℕ) (factors : List ℤ) (row : List Value) (sum : Ratio) (whole : Result Ratio ℕ) (i f : ℕ) (a : ℤ) (below : i < length fields) (many : length factors ≡ length fields)
+module _ (fields : List ℕ) (factors : List ℤ) (row : List Value) (sum : Ratio) (whole : Result Ratio ℕ) (i f : ℕ) (a : ℤ) (below : i < length fields)
+    (many : length factors ≡ length fields)
     (field_is : f ≡ get_or fields i 0) (factor_is : a ≡ get_or factors i (pos 0)) where
-  here : sum_from (drop i fields) (drop i factors) row sum ≡ whole → (ok_or (next_sum a (value_of row f) sum) f >>= (λ next. sum_from (drop (i + 1) fields) (drop (i + 1) factors) row next)) ≡ whole
+  here : sum_from (drop i fields) (drop i factors) row sum ≡ whole
+      → (ok_or (next_sum a (value_of row f) sum) f >>= (λ next. sum_from (drop (i + 1) fields) (drop (i + 1) factors) row next)) ≡ whole
   here before =
       ap (λ n. (ok_or (next_sum a (value_of row n) sum) n >>= (λ next. sum_from (drop (i + 1) fields) (drop (i + 1) factors) row next))) field_is
-      ∙ ap (λ (k : ℤ). (ok_or (next_sum k (value_of row (get_or fields i 0)) sum) (get_or fields i 0) >>= (λ next. sum_from (drop (i + 1) fields) (drop (i + 1) factors) row next))) factor_is
+      ∙ ap (λ (k : ℤ). (ok_or (next_sum k (value_of row (get_or fields i 0)) sum) (get_or fields i 0)
+      >>= (λ next. sum_from (drop (i + 1) fields) (drop (i + 1) factors) row next))) factor_is
       ∙ sym (sum_from-at fields factors row sum i 0 (pos 0) below (omega arith)) ∙ before
 
   -- a sum that leaves the range ends the loop at its field
   pub overflow-there : sum_from (drop i fields) (drop i factors) row sum ≡ whole → next_sum a (value_of row f) sum ≡ None → whole ≡ Err f
-  overflow-there before none = sym (here before) ∙ ap (λ (o : Option Ratio). (ok_or o f >>= (λ next. sum_from (drop (i + 1) fields) (drop (i + 1) factors) row next))) none
+  overflow-there before none = sym (here before)
+      ∙ ap (λ (o : Option Ratio). (ok_or o f >>= (λ next. sum_from (drop (i + 1) fields) (drop (i + 1) factors) row next))) none
 
   -- and else the loop goes on
-  pub sum-more : (next : Ratio) → sum_from (drop i fields) (drop i factors) row sum ≡ whole → next_sum a (value_of row f) sum ≡ Some next → sum_from (drop (i + 1) fields) (drop (i + 1) factors) row next ≡ whole
-  sum-more next before some = sym (ap (λ (o : Option Ratio). (ok_or o f >>= (λ next. sum_from (drop (i + 1) fields) (drop (i + 1) factors) row next))) some) ∙ here before
+  pub sum-more : (next : Ratio) → sum_from (drop i fields) (drop i factors) row sum ≡ whole → next_sum a (value_of row f) sum ≡ Some next
+      → sum_from (drop (i + 1) fields) (drop (i + 1) factors) row next ≡ whole
+  sum-more next before some = sym (ap (λ (o : Option Ratio). (ok_or o f >>= (λ next. sum_from (drop (i + 1) fields) (drop (i + 1) factors) row next))) some)
+      ∙ here before

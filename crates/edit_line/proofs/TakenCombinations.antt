@@ -1,4 +1,5 @@
-use Rattle.std.proofs.Common.{◌≡◌, ℕ, suc, true, List, [], ◌∷◌, All, map, None, ℤ, pos, ◌<ℤ◌, ◌+ℤ◌, ◌*ℤ◌, int_div, int_lt, int_rem, is_none, unsigned_abs, refl, sym, ap, ◌∙◌, arith}
+use Rattle.std.proofs.Common.{◌≡◌, ℕ, suc, true, List, [], ◌∷◌, All, map, None, ℤ, pos, ◌<ℤ◌, ◌+ℤ◌, ◌*ℤ◌, int_div, int_lt, int_rem, is_none, unsigned_abs, refl}
+use Rattle.std.proofs.Common.{sym, ap, ◌∙◌, arith}
 use Rattle.std.specs.Int.{◌∣◌}
 use Rattle.std.specs.List.{list_all}
 use Rattle.std.specs.Ordering.{int_eq}
@@ -38,8 +39,17 @@ module _ (m n g : ℤ) (s t : LineParts) where
   -- a sum whose numbers are all multiples, divided
   pub divided-sum : t.shape ≡ s.shape → divides g (sum_of m n s t) ≡ true → IsCombined m n g s t (divided_by g (sum_of m n s t))
   divided-sum same h =
-      let (factors, last) = both_true _ _ (sym (list_all-append (λ z. int_eq (int_rem z g) (pos 0)) (sum_of m n s t).factors ((sum_of m n s t).constant ∷ [])) ∙ h) in
-      record { shape = refl; same = same; sets = refl; factors = multiples g (sum_of m n s t).factors factors; constant = multiple g (sum_of m n s t).constant (both_true _ _ last).0; relation = refl }
+      let (factors, last) = both_true _ _ (sym (list_all-append (λ z. int_eq (int_rem z g) (pos 0)) (sum_of m n s t).factors ((sum_of m n s t).constant ∷ []))
+      ∙ h) in
+      record {
+        shape = refl;
+        same = same;
+        sets = refl;
+        factors = multiples g (sum_of m n s t).factors factors;
+        constant =
+            multiple g (sum_of m n s t).constant (both_true _ _ last).0;
+        relation = refl;
+      }
 
   -- what may be taken is an allowed sum
   pub may-allowed : t.shape ≡ s.shape → may_combine m n g s t ≡ true → IsAllowedSum m n g s t (divided_by g (sum_of m n s t))
@@ -49,18 +59,27 @@ module _ (m n g : ℤ) (s t : LineParts) where
       let (g_above, after_g) = both_true (int_lt (pos 0) g) _ after_n in
       let (meet, after_meet) = both_true (all_meet s.sets t.sets) _ after_g in
       let (fits, multiples) = both_true (is_none (first_overflow 0 m n (numbers s) (numbers t))) _ after_meet in
-      record { m_keeps = may-keeps s.relation m m_may; n_keeps = may-keeps t.relation n n_may; g_above = above g g_above; combined = divided-sum same multiples }
+      record {
+        m_keeps = may-keeps s.relation m m_may;
+        n_keeps = may-keeps t.relation n n_may;
+        g_above = above g g_above;
+        combined =
+            divided-sum same multiples;
+      }
     where
       above : (z : ℤ) → int_lt (pos 0) z ≡ true → pos 0 <ℤ z
       above z h = (is_enough-Decides Above z).0 h
 
   -- so it holds where both lines do
-  pub combined-holds : t.shape ≡ s.shape → may_combine m n g s t ≡ true → (point : Point) → LineHolds s point → LineHolds t point → LineHolds (divided_by g (sum_of m n s t)) point
+  pub combined-holds : t.shape ≡ s.shape → may_combine m n g s t ≡ true → (point : Point) → LineHolds s point → LineHolds t point
+      → LineHolds (divided_by g (sum_of m n s t)) point
   combined-holds same may point s_holds t_holds =
-      let is = may-allowed same may in LineHolds-combined m n g s t (divided_by g (sum_of m n s t)) point is.m_keeps is.n_keeps is.g_above is.combined s_holds t_holds
+      let is = may-allowed same may in LineHolds-combined m n g s t (divided_by g (sum_of m n s t)) point is.m_keeps is.n_keeps is.g_above is.combined s_holds
+      t_holds
 
   -- when it may be taken
-  pub allowed-may : may_multiply s.relation m ≡ true → may_multiply t.relation n ≡ true → pos 0 <ℤ g → all_meet s.sets t.sets ≡ true → first_overflow 0 m n (numbers s) (numbers t) ≡ None → divides g (sum_of m n s t) ≡ true → may_combine m n g s t ≡ true
+  pub allowed-may : may_multiply s.relation m ≡ true → may_multiply t.relation n ≡ true → pos 0 <ℤ g → all_meet s.sets t.sets ≡ true
+      → first_overflow 0 m n (numbers s) (numbers t) ≡ None → divides g (sum_of m n s t) ≡ true → may_combine m n g s t ≡ true
   allowed-may m_may n_may g_above meet fits multiples =
       true-both _ _ m_may (true-both _ _ n_may (true-both _ _ (above g g_above) (true-both _ _ meet (true-both _ _ (ap is_none fits) multiples))))
     where
@@ -70,7 +89,8 @@ module _ (m n g : ℤ) (s t : LineParts) where
 -- ---- the greatest common divisor
 
 no_remainder : (g : ℕ) (z : ℤ) → g ∣ unsigned_abs z → int_eq (int_rem z (pos g)) (pos 0) ≡ true
-no_remainder g z divides = (Decides-int_eq (int_rem z (pos g)) (pos 0)).1 (left (int_div z (pos g) *ℤ pos g) (int_rem z (pos g)) z (quotient-exact z _ g refl divides) (quot-rem z (pos g)))
+no_remainder g z divides = (Decides-int_eq (int_rem z (pos g)) (pos 0)).1 (left (int_div z (pos g) *ℤ pos g) (int_rem z (pos g)) z
+    (quotient-exact z _ g refl divides) (quot-rem z (pos g)))
   where
     left : (a r z : ℤ) → a ≡ z → a +ℤ r ≡ z → r ≡ pos 0
     left a r z is sum = omega (arith, ints, is, sum)

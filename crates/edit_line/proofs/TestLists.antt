@@ -20,7 +20,8 @@ pub any-filter : {X : Type 0} (t p : X → Bool) (xs : List X) → list_any t (f
 any-filter t p [] = refl
 any-filter {X} t p (x ∷ xs) = by (p x) (any-filter t p xs)
   where
-    by : (b : Bool) → list_any t (filter p xs) ≡ list_any (λ x. p x && t x) xs → list_any t (if b then x ∷ filter p xs else filter p xs) ≡ ((b && t x) || list_any (λ x. p x && t x) xs)
+    by : (b : Bool) → list_any t (filter p xs) ≡ list_any (λ x. p x && t x) xs → list_any t (if b then x ∷ filter p xs else filter p xs)
+        ≡ ((b && t x) || list_any (λ x. p x && t x) xs)
     by true e = ap (λ b. t x || b) e
     by false e = e
 

@@ -1,4 +1,5 @@
-use Rattle.std.proofs.Common.{◌≡◌, ℕ, zero, suc, ◌+◌, ◌-◌, ◌<◌, ◌≤◌, ◌^◌, ◌++◌, not, nat_eq, true, List, [], ◌∷◌, bit_and, drop, get_or, length, map, slice_index_or, slice_set, refl, sym, ap, ◌∙◌, subst, add-one, arith}
+use Rattle.std.proofs.Common.{◌≡◌, ℕ, zero, suc, ◌+◌, ◌-◌, ◌<◌, ◌≤◌, ◌^◌, ◌++◌, not, nat_eq, true, List, [], ◌∷◌, bit_and, drop, get_or, length, map}
+use Rattle.std.proofs.Common.{slice_index_or, slice_set, refl, sym, ap, ◌∙◌, subst, add-one, arith}
 use Rattle.std.proofs.Math.Nat.{mod-eq_of_lt, one-le-pow}
 use Rattle.std.proofs.Math.Seq.{drop-cons}
 use Rattle.std.proofs.lemmas.Nat.{and_comm, and_le_l, and_mask}
@@ -69,7 +70,8 @@ pub whole-meets : (shape : List Domain) (sets : List ℕ) → AreSets sets (whol
 whole-meets [] sets are = refl
 whole-meets (Numerical ∷ shape) sets are = whole-meets shape sets are
 whole-meets (Categorical k ∷ shape) [] are = absurd are
-whole-meets (Categorical k ∷ shape) (s ∷ sets) are = true-both _ _ (ap (λ n. not (nat_eq n 0)) (within-ones s k are.1) ∙ some s are.0) (whole-meets shape sets are.2)
+whole-meets (Categorical k ∷ shape) (s ∷ sets) are = true-both _ _ (ap (λ n. not (nat_eq n 0)) (within-ones s k are.1) ∙ some s are.0)
+    (whole-meets shape sets are.2)
   where
     some : (n : ℕ) → 0 < n → not (nat_eq n 0) ≡ true
     some n above = grind (arith, above)
@@ -87,4 +89,5 @@ wholes-cons (Categorical k) shape = refl
 
 pub wholes-at : (counts : List ℕ) (i k : ℕ) → i < length counts
     → whole_sets (map domain_with (drop i counts)) ≡ whole_sets (domain_with (get_or counts i k) ∷ []) ++ whole_sets (map domain_with (drop (i + 1) counts))
-wholes-at counts i k below = rw (add-one) (ap (λ (ns : List ℕ). whole_sets (map domain_with ns)) (drop-cons counts i k below) ∙ wholes-cons (domain_with (get_or counts i k)) (map domain_with (drop (suc i) counts)))
+wholes-at counts i k below = rw (add-one) (ap (λ (ns : List ℕ). whole_sets (map domain_with ns)) (drop-cons counts i k below)
+    ∙ wholes-cons (domain_with (get_or counts i k)) (map domain_with (drop (suc i) counts)))

@@ -1,10 +1,12 @@
+//! Boxes of codes: a set of codes for each categorical field. Elsewhere in the editor a box is forbidden:
+//! the codes of a record must not all be in it.
 ghost use Rattle.std.specs.Prelude.{◌≡◌, ◌↔◌, IfOk, true};
 ghost use Rattle.edit_line.specs.Boxes.{IsBox, are_whole, box_of};
 ghost use Rattle.edit_line.specs.Sets.{AreSets, are_subsets};
 ghost use Rattle.edit_line.specs.Domains.{domains};
 ghost use Rattle.edit_line.specs.Shapes.{shape_of, whole_sets};
 
-use crate::code_sets::{are_inside, are_whole, first_narrow, is_outside_at};
+use crate::code_sets::{are_inside, are_whole, first_not_whole, is_outside_at};
 use crate::shape::Shape;
 use edit_model::Survey;
 use foundation::OutOfMemory;
@@ -17,7 +19,8 @@ use std::marker::Model;
 pub struct CodeBox {
     sets: Vec<u64>,
     shape: Shape,
-    /// The place at which a comparison looks first: that of the first set without all codes. Any other would do.
+    /// The place at which a comparison looks first: that of the first set without all codes. Any other
+    /// would do.
     probe: usize,
 }
 
@@ -33,7 +36,8 @@ impl Model for CodeBox {
 }
 
 impl CodeBox {
-    /// The box of these sets, over the survey's fields. No memory.
+    /// The box of these sets, one for each categorical field of the survey. None is empty or has a code
+    /// that its field has not. No memory.
     pub fn new(survey: &Survey, sets: Vec<u64>) -> CodeBox
         requires { IsBox (box_of (shape_of survey.now.fields) sets.items) }
         ensures { result ≡ box_of (shape_of survey.now.fields) sets.items }
@@ -41,12 +45,13 @@ impl CodeBox {
         CodeBox::over(Shape::of(survey), sets)
     }
 
-    /// The box of these sets, over fields of this shape. No memory.
+    /// The box of these sets, one for each categorical field of this shape. None is empty or has a code
+    /// that its field has not. No memory.
     pub fn over(shape: Shape, sets: Vec<u64>) -> CodeBox
         requires { IsBox (box_of (domains shape) sets.items) }
         ensures { result ≡ box_of (domains shape) sets.items }
     {
-        let probe = first_narrow(shape, &sets);
+        let probe = first_not_whole(shape, &sets);
         CodeBox { sets, shape, probe }
     }
 
@@ -58,14 +63,16 @@ impl CodeBox {
         self.sets.as_slice()
     }
 
-    /// Whether the sets lie inside those of the box. Most that do not are told by one place. No memory.
+    /// Whether each of these sets lies inside the box's set for the same field. A look at the probe place
+    /// tells most that do not. No memory.
     pub fn has_inside(&self, sets: &[u64]) -> bool
         ensures { result ≡ are_subsets sets.now self.now.sets }
     {
         !is_outside_at(sets, self.sets(), self.probe) && are_inside(sets, self.sets())
     }
 
-    /// Whether the sets have all codes: the box has the codes of every point. No memory.
+    /// Whether each set has all codes of its field, so that the codes of every point are in the box. No
+    /// memory.
     pub fn is_full(&self) -> bool
         ensures exact { result ≡ are_whole self.now.shape self.now.sets }
         ensures whole { result ≡ true ↔ self.now.sets ≡ whole_sets self.now.shape }

@@ -1,4 +1,5 @@
-//! Sets of codes, as bits: a set for each categorical field, in declared order.
+//! Sets of codes, as bits: a list has a set for each categorical field, in declared order. A numerical
+//! field has none, and takes up no place.
 ghost use Rattle.std.specs.Prelude.{◌≡◌, ◌≤◌, IfNone, IfOk, IfSome, false, length, true};
 ghost use Rattle.edit_line.specs.inner.WholePlaces.{IsNotWhole, IsWholeUpTo};
 ghost use Rattle.edit_model.specs.Points.{has_code};
@@ -11,7 +12,9 @@ use crate::shape::{Shape, whole_set};
 use foundation::OutOfMemory;
 use std::alloc::Global;
 
-/// Whether each set of the first lies inside that of the second. No memory.
+/// Whether each set of the second list has inside it the set at its place in the first. Where the first
+/// list is shorter, they are not inside; where it is longer, its further sets are not looked at. No
+/// memory.
 pub fn are_inside(first: &[u64], second: &[u64]) -> bool
     ensures { result ≡ are_subsets first.now second.now }
 {
@@ -26,18 +29,20 @@ pub fn are_inside(first: &[u64], second: &[u64]) -> bool
     true
 }
 
-/// Whether at the place a code is in the set of the first, and not in that of the second. No memory.
+/// Whether the first list's set at the place has a code that the second's there has not. It is false where
+/// one of the lists has no set there. No memory.
 pub(crate) fn is_outside_at(first: &[u64], second: &[u64], place: usize) -> bool
     ensures { result ≡ true → are_subsets first.now second.now ≡ false }
 {
     place < first.len() && place < second.len() && first[place] & second[place] != first[place]
 }
 
-/// The place of the first set that has not all codes of its field, and one past the last where there is none. No memory.
-pub(crate) fn first_narrow(shape: Shape, sets: &[u64]) -> usize {
+/// The place of the first set that has not all codes of its field, or one past the last where each has
+/// them. A comparison of sets looks there first. No memory.
+pub(crate) fn first_not_whole(shape: Shape, sets: &[u64]) -> usize {
     let mut place = 0;
     for count in shape.code_counts() {
-        match behind_whole(sets, place, *count) {
+        match next_if_whole(sets, place, *count) {
             Some(next) => place = next,
             None => return place,
         }
@@ -45,7 +50,8 @@ pub(crate) fn first_narrow(shape: Shape, sets: &[u64]) -> usize {
     place
 }
 
-/// Whether some code of each field is in both sets. No memory.
+/// Whether for each field some code is in both its sets: the one of the first list and the one of the
+/// second. No memory.
 pub fn all_meet(first: &[u64], second: &[u64]) -> bool
     requires { length first.now ≡ length second.now }
     ensures { result ≡ all_meet first.now second.now }
@@ -58,7 +64,7 @@ pub fn all_meet(first: &[u64], second: &[u64]) -> bool
     true
 }
 
-/// The codes that are in both sets, field by field.
+/// The codes that are in both lists' sets, field by field.
 pub fn meets(alloc: Global, first: &[u64], second: &[u64]) -> Result<Vec<u64>, OutOfMemory>
     requires { length first.now ≡ length second.now }
     ensures { IfOk result (λ sets. sets.items ≡ in_both first.now second.now) }
@@ -78,27 +84,27 @@ pub fn narrow(sets: &mut Vec<u64>, others: &[u64])
     }
 }
 
-/// Whether no set is empty. No memory.
+/// Whether no set is empty: then some codes, one for each field, are all in their sets. No memory.
 pub fn has_codes(sets: &[u64]) -> bool
     ensures { result ≡ none_is_empty sets.now }
 {
     sets.iter().all(|set| *set != 0)
 }
 
-/// Whether the set has the code. No memory.
+/// Whether the set, as bits, has the code; no set has one past 63. No memory.
 pub fn has_code(set: u64, code: u8) -> bool
     ensures { result ≡ has_code set code }
 {
     code < 64 && (set >> code) & 1 == 1
 }
 
-/// Whether the sets have all codes of their fields. No memory.
+/// Whether each set has all codes of its field. No memory.
 pub(crate) fn are_whole(shape: Shape, sets: &[u64]) -> bool
     ensures { result ≡ are_whole (domains shape) sets.now }
 {
     let mut place = 0;
     for count in shape.code_counts() {
-        match behind_whole(sets, place, *count) {
+        match next_if_whole(sets, place, *count) {
             Some(next) => place = next,
             None => return false,
         }
@@ -106,8 +112,9 @@ pub(crate) fn are_whole(shape: Shape, sets: &[u64]) -> bool
     place >= sets.len()
 }
 
-// The place behind the set of this number of codes, where that is whole. Where there are no codes there is no set.
-fn behind_whole(sets: &[u64], place: usize, count: u8) -> Option<usize>
+// The place of the next field's set, or None where the set at this place is not that of all `count` codes.
+// A numerical field, which has 0 codes, has no set, so the place stays.
+fn next_if_whole(sets: &[u64], place: usize, count: u8) -> Option<usize>
     requires { count ≤ 64 }
     ensures some { IfSome result (λ next. IsWholeUpTo sets.now place count next) }
     ensures none { IfNone result (IsNotWhole sets.now place count) }

@@ -1,3 +1,4 @@
+//! A line with its origin, from which a derivation can later be written down.
 ghost use Rattle.std.specs.Prelude.{◌≡◌, IfOk};
 
 use crate::line::Line;

@@ -1,4 +1,5 @@
-//! The numbers of a line, divided by their greatest common divisor.
+//! The numbers of a line divided by their greatest common divisor, so that they stay small. Where they fit
+//! in 64 bits the work is done there, which is faster.
 ghost use Rattle.std.specs.Prelude.{◌≡◌, ◌<ℤ◌, ◌∷◌, All, IfSome, if◌then◌else◌, int_div, int_lt, map, neg_ℤ, pos, unsigned_abs};
 ghost use Rattle.fraction128.specs.Divisor as euclid;
 ghost use Rattle.fraction128.specs.Divisor.{int_gcd};
@@ -33,7 +34,7 @@ pub(crate) fn divide_all(numbers: &mut Vec<i128>, divisor: i128)
     }
 }
 
-/// The quotient by a positive divisor, rounded toward zero. No memory.
+/// The quotient by a positive divisor, rounded toward zero. By 1 nothing is divided, for speed. No memory.
 pub fn quotient(number: i128, divisor: i128) -> i128
     requires { pos 0 <ℤ divisor }
     ensures { result ≡ int_div number divisor }
@@ -44,7 +45,8 @@ pub fn quotient(number: i128, divisor: i128) -> i128
     quotient_of(number, divisor)
 }
 
-// The quotient by any positive divisor. It is found in 64 bits where both fit.
+// The quotient by any positive divisor, rounded toward zero: `quotient` without its short way for 1. It
+// is found in 64 bits where both numbers, without their signs, fit there.
 fn quotient_of(number: i128, divisor: i128) -> i128
     requires { pos 0 <ℤ divisor }
     ensures { result ≡ int_div number divisor }
@@ -55,7 +57,7 @@ fn quotient_of(number: i128, divisor: i128) -> i128
     }
 }
 
-// The quotient in 128 bits.
+// The quotient in 128 bits, for numbers that 64 bits do not hold.
 fn long_quotient(number: i128, divisor: i128) -> i128
     requires { pos 0 <ℤ divisor }
     ensures { result ≡ int_div number divisor }
@@ -63,7 +65,7 @@ fn long_quotient(number: i128, divisor: i128) -> i128
     number / divisor
 }
 
-// The number of this size that is below 0 where the other is.
+// The number of this size, with the sign of `other`.
 fn with_sign(other: i128, size: u64) -> i128
     ensures { result ≡ (if int_lt other (pos 0) then neg_ℤ (pos size) else pos size) }
 {
@@ -74,7 +76,8 @@ fn with_sign(other: i128, size: u64) -> i128
     }
 }
 
-// The greatest common divisor of the numbers. It looks no further than where that is 1.
+// The greatest common divisor of the numbers, 0 where they are all 0. It looks no further than where that
+// is 1.
 fn gcd_of(factors: &[i128], constant: i128) -> i128
     requires factors { All InRange factors.now }
     requires constant { InRange constant }
@@ -103,7 +106,7 @@ fn common_divisor(a: i128, b: i128) -> i128
     }
 }
 
-// The number without its sign, where that has 64 bits.
+// The number without its sign, or None where that passes 64 bits.
 fn word_of(number: i128) -> Option<u64>
     ensures { IfSome result (λ word. word ≡ unsigned_abs number) }
 {
@@ -115,7 +118,7 @@ fn word_of(number: i128) -> Option<u64>
     }
 }
 
-// Euclid's remainders.
+// The greatest common divisor of two numbers of 64 bits, by Euclid's remainders.
 fn gcd_of_words(a: u64, b: u64) -> u64
     ensures { result ≡ euclid.gcd a b }
 {

@@ -1,3 +1,6 @@
+//! The edits that records are searched by: numbered lines over a survey's fields, and with them the list
+//! from which elimination begins. In contracts, `AreEdits` says that the lines are over the survey's
+//! fields and their numbers rise. `IsReducedOf` says that the list beside them is these lines, reduced.
 ghost use Rattle.std.specs.Prelude.{◌≡◌, All, IfOk};
 ghost use Rattle.edit_line.specs.EditSets.{AreEdits, IsReducedOf, base_lines, edits_of};
 ghost use Rattle.edit_line.specs.Lines.{IsLine};
@@ -35,7 +38,8 @@ impl Model for Edits {
 }
 
 impl Edits {
-    /// The edits of these lines over the survey's fields.
+    /// The edits of these lines over the survey's fields, each with its number. The numbers rise, but may
+    /// leave some out.
     pub fn new(
         alloc: Global,
         survey: &Survey,
@@ -67,7 +71,8 @@ impl Edits {
         self.shape
     }
 
-    /// The lines of the edits, reduced, each with the number of its edit as its origin. No memory.
+    /// The lines of the edits, reduced: without those that always hold or that another subsumes. The origin
+    /// of each is the number of its edit. No memory.
     pub fn reduced(&self) -> &[Derived]
         ensures exact { result.now ≡ reduce_derived (base_lines self.now.lines) }
         ensures lines { All IsLine (lines_of result.now) }
@@ -77,7 +82,7 @@ impl Edits {
     }
 }
 
-// The lines, each with its number as its origin.
+// Copies of the lines, each with its number as its origin, before they are reduced.
 fn base_lines(alloc: Global, lines: &[(u32, Line)]) -> Result<Vec<Derived>, OutOfMemory>
     ensures base { IfOk result (λ base. base.items ≡ base_lines lines.now) }
     ensures lines { IfOk result (λ base. All IsLine (lines_of base.items)) }

@@ -18,7 +18,7 @@ impl Edits {
     }
 }
 
-// Whether the fields and the lines of two surveys' edits are equal.
+// Whether the fields and the lines of both edits are equal.
 fn same_contents(a: &Edits, b: &Edits) -> bool
     ensures { result ≡ same_edits a.now b.now }
 {
@@ -26,7 +26,8 @@ fn same_contents(a: &Edits, b: &Edits) -> bool
 }
 
 impl Line {
-    /// Whether both are equal. No memory.
+    /// Whether both lines are equal: the same sets and numbers, and the same relation, over the same
+    /// fields. No memory.
     pub fn same(&self, other: &Line) -> bool
         ensures exact { result ≡ same_line self.now other.now }
         ensures equal { result ≡ true ↔ self.now ≡ other.now }
@@ -68,7 +69,7 @@ fn same_numbered(first: &(u32, Line), second: &(u32, Line)) -> bool
     first.0 == second.0 && same_parts(&first.1, &second.1)
 }
 
-// Whether the fields take the same values.
+// Whether both shapes have the same fields: each of the same kind, with as many codes.
 fn same_shape(first: Shape, second: Shape) -> bool
     ensures { result ≡ same_shape (domains first) (domains second) }
 {

@@ -1,3 +1,9 @@
+//! A list of lines that stays reduced as lines are taken in: elimination puts each line that it makes in
+//! here.
+//!
+//! In contracts, `with_derived` has the kept lines after one more is taken in. `NoneOver` says that no
+//! line before a place subsumes the given one, and `NoneUnder` that the given one subsumes none of them.
+//! `left_from` has the lines before a place, and of the others those that the given one does not subsume.
 ghost use Rattle.std.specs.Prelude.{◌≡◌, ◌<◌, ◌-◌, ◌++◌, [], ◌∷◌, length, not, take, OnErr, OnOk};
 ghost use Rattle.std.specs.List.{filter, list_any};
 ghost use Rattle.std.specs.Vec.{vec_capacity, vec_len};
@@ -34,7 +40,7 @@ impl Model for Kept {
 }
 
 impl Kept {
-    /// No line. No memory.
+    /// The list without lines. No memory.
     pub fn new(alloc: Global) -> Kept
         ensures { result ≡ [] }
     {
@@ -44,7 +50,7 @@ impl Kept {
         }
     }
 
-    /// The lines. No memory.
+    /// The lines, in the order in which they came in. No memory.
     pub fn into_lines(self) -> Vec<Derived>
         ensures { result.items ≡ self }
     {
@@ -68,8 +74,8 @@ impl Kept {
         self.replace_subsumed(new, key, first)
     }
 
-    /// Takes in an equal line with this origin: no copy is made of a line that is dropped. After a refusal
-    /// the kept lines are as before.
+    /// Takes in an equal line with this origin, as `take` does. No copy is made of a line that is dropped.
+    /// After a refusal the kept lines are as before.
     pub fn take_copy(
         &mut self,
         alloc: Global,
@@ -104,8 +110,9 @@ impl Kept {
         Ok(())
     }
 
-    // Puts the line last, without those that it subsumes, of which none stands before the first place. Its
-    // place is reserved before one is removed.
+    // Puts the line last, and removes the lines that it subsumes, of which none stands before the place
+    // `first`. Its own place is reserved before one is removed, so that a refusal leaves the kept lines as
+    // before.
     fn replace_subsumed(&mut self, new: Derived, key: u64, first: usize) -> Result<(), OutOfMemory>
         requires key { key ≡ key_of new.line.factors }
         requires first { NoneUnder first new.line self.old }
@@ -121,8 +128,8 @@ impl Kept {
     }
 }
 
-// The first place of a line that may subsume the line or be subsumed by it, as their keys tell; the number
-// of the lines where there is none.
+// The place of the first line that, as far as keys tell, may subsume the given line or be subsumed by it.
+// Where there is none it is the number of the lines.
 fn first_agreeing(lines: &[Derived], keys: &[u64], line: &Line, key: u64) -> usize
     requires keyed { keys.now ≡ keys_of lines.now }
     requires key { key ≡ key_of line.now.factors }
@@ -137,8 +144,8 @@ fn first_agreeing(lines: &[Derived], keys: &[u64], line: &Line, key: u64) -> usi
     lines.len()
 }
 
-// Whether one of the lines subsumes the line. None before the first place does. It looks no further than
-// the first that does.
+// Whether one of the lines subsumes the given line, whose key is `key`. No line before the place `first`
+// does.
 fn is_subsumed(lines: &[Derived], keys: &[u64], line: &Line, key: u64, first: usize) -> bool
     requires keyed { keys.now ≡ keys_of lines.now }
     requires key { key ≡ key_of line.now.factors }
@@ -153,8 +160,8 @@ fn is_subsumed(lines: &[Derived], keys: &[u64], line: &Line, key: u64, first: us
     false
 }
 
-// Removes the lines that the line subsumes, and their keys. None stands before the first place. Room for one
-// more stays.
+// Removes the lines that the given line subsumes, and their keys. None stands before the place `first`.
+// Room for one more stays, since the caller has reserved it.
 fn remove_subsumed(
     lines: &mut Vec<Derived>,
     keys: &mut Vec<u64>,
@@ -176,8 +183,8 @@ fn remove_subsumed(
     }
 }
 
-// Removes the line at the place, and its key, if the line subsumes it; and tells the place of the next.
-// Room for one more stays.
+// Removes the line at the place, and its key, if the given line subsumes it. The answer is the place of
+// the next line to look at; each call leaves one line less to look at. Room for one more stays.
 fn remove_at(
     lines: &mut Vec<Derived>,
     keys: &mut Vec<u64>,

@@ -1,4 +1,5 @@
-//! Keys of lines' factors, by which most lines are seen not to subsume each other.
+//! Keys of lines' factors, by which most lines are seen not to subsume each other: a line subsumes only
+//! lines with the same factors, unless it has none.
 ghost use Rattle.std.specs.Prelude.{◌≡◌, false};
 ghost use Rattle.edit_line.specs.inner.Keys.{key_of, key_with, may_subsume};
 ghost use Rattle.edit_line.specs.Subsumption as subsumption;
@@ -6,7 +7,7 @@ ghost use Rattle.edit_line.specs.Subsumption as subsumption;
 use crate::line::Line;
 use crate::subsumption::subsumes;
 
-/// The key of factors. No memory.
+/// The key of a line's factors. Equal factors have equal keys, and the key is 0 where all are 0. No memory.
 pub(crate) fn key_of(factors: &[i128]) -> u64
     ensures { result ≡ key_of factors.now }
 {
@@ -17,7 +18,8 @@ pub(crate) fn key_of(factors: &[i128]) -> u64
     key
 }
 
-// The key of some factors and one more.
+// The key of a list of factors, from the key of those before the last, and the last. It is taken in 64
+// bits, in which numbers wrap.
 fn key_with(key: u64, factor: i128) -> u64
     ensures { result ≡ key_with key factor }
 {
@@ -26,8 +28,8 @@ fn key_with(key: u64, factor: i128) -> u64
         .wrapping_add(low)
 }
 
-/// Whether a subsumes b. They are compared only where their keys agree, or a's is that of a line without
-/// a factor. No memory.
+/// Whether `a` subsumes `b`. They are compared only where their keys agree, or where `a`'s is 0, as that of
+/// a line without a factor is. No memory.
 #[inline(always)]
 pub(crate) fn subsumes_keyed(a: &Line, a_key: u64, b: &Line, b_key: u64) -> bool
     requires first { a_key ≡ key_of a.now.factors }
@@ -37,7 +39,8 @@ pub(crate) fn subsumes_keyed(a: &Line, a_key: u64, b: &Line, b_key: u64) -> bool
     may_subsume(a_key, b_key) && subsumes(a, b)
 }
 
-/// Whether, as far as their keys tell, one of both may subsume the other. No memory.
+/// Whether one of both lines may subsume the other, as far as their keys tell. If not, neither does. The
+/// lines are arguments for contracts alone. No memory.
 #[inline(always)]
 pub(crate) fn may_concern(a: &Line, a_key: u64, b: &Line, b_key: u64) -> bool
     requires first { a_key ≡ key_of a.now.factors }
@@ -50,7 +53,8 @@ pub(crate) fn may_concern(a: &Line, a_key: u64, b: &Line, b_key: u64) -> bool
     may_subsume(a_key, b_key) || may_subsume(b_key, a_key)
 }
 
-// Whether a line with the first key may subsume one with the second.
+// Whether a line with the first key may subsume one with the second. The key 0 may be that of a line
+// without factors, which can subsume any.
 #[inline(always)]
 fn may_subsume(first: u64, second: u64) -> bool
     ensures { result ≡ may_subsume first second }

@@ -1,8 +1,8 @@
 //! Linear edits, as elimination takes them: IF each code is in its set THEN a sum of factor * value and a
 //! constant is at least 0, above 0, or 0. Begin with [`Line`]; its meaning is in `specs/Lines.antt`. The
-//! contracts say what a line's sum is at a record ([`value_at`], [`fails`]), when one line makes another
-//! needless ([`subsumes`]), that a list without its needless lines ([`reduce`]) says the same, and that
-//! the negation of a line ([`Line::negation`]) holds exactly where the line does not.
+//! contracts say what a line's sum is at a record ([`value_at`], [`fails`]), and when one line makes
+//! another needless ([`subsumes`]). A list without its needless lines ([`reduce`]) says the same. The
+//! negation of a line ([`Line::negation`]) holds exactly where the line does not.
 #![tactic(auto)]
 
 mod code_box;

@@ -1,3 +1,6 @@
+//! The linear edit, which elimination combines: its parts, and what is made of them in place, without new
+//! memory. In contracts, `parts_of` has the line of its parts, and `IsLine` says that these are as
+//! [`Line`] asks. `reduced` has a line with its numbers divided by their greatest common divisor.
 ghost use Rattle.std.specs.Prelude.{◌≡◌, ◌<ℤ◌, All, IfOk, None, length, pos, true};
 ghost use Rattle.fraction128.specs.Range.{InRange};
 ghost use Rattle.edit_line.specs.Combinations.{all_meet, first_overflow, numbers, sum_of};
@@ -44,7 +47,8 @@ impl Model for Line {
 }
 
 impl Line {
-    /// The line of these parts, over the survey's fields. No memory.
+    /// The line of these parts, over the survey's fields: a set for each categorical field and a factor for
+    /// each numerical one. The parts are as the type asks. No memory.
     pub fn new(
         survey: &Survey,
         sets: Vec<u64>,
@@ -58,7 +62,7 @@ impl Line {
         Line::over(Shape::of(survey), sets, factors, constant, relation)
     }
 
-    /// The line of these parts, over fields of this shape. No memory.
+    /// The line of these parts, over fields of this shape. The parts are as the type asks. No memory.
     pub fn over(
         shape: Shape,
         sets: Vec<u64>,
@@ -135,9 +139,10 @@ impl Line {
         self.shape
     }
 
-    /// Makes the line `m` times `s` and `n` times `t`, or answers the first place, among the factors and
-    /// then the constant, at which a number on the way leaves the range. All three are over one survey's
-    /// fields, and the sets of `s` and `t` meet. No memory.
+    /// Makes this line the sum of `m` times `s` and `n` times `t`, and answers None. Or it answers the
+    /// first place, among the factors and then the constant, at which a number on the way leaves the
+    /// range. Then the numbers that stand here mean nothing. All three are over one survey's fields, and
+    /// the sets of `s` and `t` meet. No memory.
     pub fn write_sum(&mut self, m: i128, s: &Line, n: i128, t: &Line) -> Option<usize>
         requires s_over { s.now.shape ≡ self.old.shape }
         requires t_over { t.now.shape ≡ self.old.shape }
@@ -161,7 +166,8 @@ impl Line {
         }
     }
 
-    /// Divides the numbers by their greatest common divisor, and tells it. No memory.
+    /// Divides the numbers by their greatest common divisor, and answers it: 1 where they are all 0. No
+    /// memory.
     pub fn reduce_numbers(&mut self) -> i128
         ensures line { self.new ≡ reduced self.old }
         ensures divisor { result ≡ divisors.divisor_of self.old.factors self.old.constant }

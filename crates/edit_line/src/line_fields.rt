@@ -15,7 +15,7 @@ use crate::line::Line;
 use edit_model::{FieldSet, Row, Survey};
 
 impl Line {
-    /// The factor at the field, 0 where that is not numerical. No memory.
+    /// The line's factor at the field of this number, 0 where that is not numerical. No memory.
     pub fn factor_at(&self, survey: &Survey, field: u32) -> i128
         requires { self.now.shape ≡ shape_of survey.now.fields }
         ensures { result ≡ factor self.now field }
@@ -33,8 +33,8 @@ impl Line {
         stands_only(fields, survey.numbers(), self.factors())
     }
 
-    /// Whether each of the record's codes is in its set. Where the record is Bad, the field's first code
-    /// is looked at. No memory.
+    /// Whether each of the record's codes is in its set. Where the record's value is Bad, the field's
+    /// first code is looked at. No memory.
     pub fn admits_codes_of(&self, survey: &Survey, row: &Row) -> bool
         requires shape { self.now.shape ≡ shape_of survey.now.fields }
         requires row { IsRow survey.now.fields row.now }
@@ -43,7 +43,7 @@ impl Line {
         admits_codes(self.sets(), survey.codes(), row)
     }
 
-    /// Whether the sets have all codes: the line speaks of numbers alone. No memory.
+    /// Whether each set has all codes of its field: the line speaks of numbers alone. No memory.
     pub fn is_full(&self) -> bool
         ensures exact { result ≡ are_whole self.now.shape self.now.sets }
         ensures whole { result ≡ true ↔ self.now.sets ≡ whole_sets self.now.shape }
@@ -52,7 +52,8 @@ impl Line {
     }
 }
 
-// The factor beside the field, 0 where it is none of these.
+// The factor at the field's place among these fields, 0 where it is none of them. `factors` has one factor
+// for each of `fields`.
 fn factor_beside(fields: &[u32], factors: &[i128], field: u32) -> i128
     requires { length factors.now ≡ length fields.now }
     ensures { result ≡ beside (pos 0) fields.now factors.now field }
@@ -65,7 +66,7 @@ fn factor_beside(fields: &[u32], factors: &[i128], field: u32) -> i128
     0
 }
 
-// Whether each field beside a factor other than 0 is in the set.
+// Whether each field whose factor is not 0 is in the set. `factors` has one factor for each of `fields`.
 fn stands_only(set: FieldSet, fields: &[u32], factors: &[i128]) -> bool
     requires count { length factors.now ≡ length fields.now }
     requires few { All (λ f. f < 64) fields.now }
@@ -79,7 +80,8 @@ fn stands_only(set: FieldSet, fields: &[u32], factors: &[i128]) -> bool
     true
 }
 
-// Whether each of the record's codes at the fields is in its set.
+// Whether each of the record's codes at the fields is in its set. A value that is no code counts as code
+// 0. `sets` has one set for each of `fields`.
 fn admits_codes(sets: &[u64], fields: &[u32], row: &Row) -> bool
     requires count { length sets.now ≡ length fields.now }
     requires within { All (λ f. f < length row.now) fields.now }

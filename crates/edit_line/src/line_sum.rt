@@ -1,10 +1,12 @@
-//! The sum of the multiples of two lines' numbers.
+//! The sum of the multiples of two lines' numbers, in range throughout. Elimination forms it for each pair
+//! of lines that it combines, so the cheap cases come first.
 ghost use Rattle.std.specs.Prelude.{◌≡◌, ◌+ℤ◌, ◌*ℤ◌, Some, None, All, length, if◌then◌else◌};
 ghost use Rattle.fraction128.specs.Range.{InRange};
 ghost use Rattle.edit_line.specs.Combinations.{combined, first_overflow, in_range, sum_fits};
 
-/// Makes the sums those of `m` times the first and `n` times the second, number by number, or answers the
-/// first place at which one leaves the range. No memory.
+/// Writes `m` times the first list and `n` times the second, added number by number, into `sums`. Or it
+/// answers the first place at which a number on the way leaves the range; then the sums before that place
+/// are written. No memory.
 pub(crate) fn write_sums(
     sums: &mut Vec<i128>,
     m: i128,
@@ -29,7 +31,7 @@ pub(crate) fn write_sums(
     None
 }
 
-/// `m * a + n * b`, where both products and the sum are in range. No memory.
+/// `m * a + n * b`, or None where one of the products or the sum is out of range. No memory.
 pub(crate) fn sum_of_products(m: i128, a: i128, n: i128, b: i128) -> Option<i128>
     ensures { result ≡ (if sum_fits m n a b then Some (m *ℤ a +ℤ n *ℤ b) else None) }
 {
@@ -42,7 +44,8 @@ pub(crate) fn sum_of_products(m: i128, a: i128, n: i128, b: i128) -> Option<i128
     }
 }
 
-// The product, where it is in range. By 0 and by 1 nothing is multiplied.
+// The product, or None where it is out of range. Where `b` is 0 or `a` is 1 nothing is multiplied, for
+// speed.
 fn product(a: i128, b: i128) -> Option<i128>
     ensures { result ≡ (if in_range (a *ℤ b) then Some (a *ℤ b) else None) }
 {
@@ -55,7 +58,8 @@ fn product(a: i128, b: i128) -> Option<i128>
     product_of(a, b)
 }
 
-// The product, where it is in range, of any two numbers. Where both have 64 bits no check is needed.
+// The product of any two numbers, or None where it is out of range. Two numbers of 64 bits go a way of
+// their own, for speed: their product always fits, so the compiler can leave the check out.
 fn product_of(a: i128, b: i128) -> Option<i128>
     ensures { result ≡ (if in_range (a *ℤ b) then Some (a *ℤ b) else None) }
 {
@@ -65,7 +69,7 @@ fn product_of(a: i128, b: i128) -> Option<i128>
     }
 }
 
-// The product, where it is in range.
+// The product, or None where it is out of range, as -2^127 is: no i128 is its negative.
 #[inline(always)]
 fn checked_product(a: i128, b: i128) -> Option<i128>
     ensures { result ≡ (if in_range (a *ℤ b) then Some (a *ℤ b) else None) }
@@ -76,7 +80,7 @@ fn checked_product(a: i128, b: i128) -> Option<i128>
     }
 }
 
-// The number, where it is in range.
+// The number, or None where it is out of range, which of all numbers of 128 bits only -2^127 is.
 fn within(number: i128) -> Option<i128>
     ensures { result ≡ (if in_range number then Some number else None) }
 {
@@ -86,7 +90,7 @@ fn within(number: i128) -> Option<i128>
     }
 }
 
-// The sum, where it is in range.
+// The sum, or None where it is out of range, as -2^127 is.
 fn sum(a: i128, b: i128) -> Option<i128>
     ensures { result ≡ (if in_range (a +ℤ b) then Some (a +ℤ b) else None) }
 {

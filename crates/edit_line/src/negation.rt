@@ -1,4 +1,5 @@
-//! The negation of a line that is no equality, as lines.
+//! The negation of a line that is no equality, as lines: whether a rule follows from others is tried by
+//! adding its negation to them.
 ghost use Rattle.std.specs.Prelude.{◌≡◌, ◌≢◌, ◌<◌, ◌↔◌, ◌++◌, All, IfOk, OnOk, length, map, neg_ℤ, slice_index_or};
 ghost use Rattle.edit_line.specs.inner.OutsideLines.{outside_line};
 ghost use Rattle.fraction128.specs.Range.{InRange};
@@ -36,7 +37,8 @@ impl Line {
     }
 }
 
-// The negative of the line's sum is above 0, or at least 0 where the line's is to be above it, for all codes.
+// The line, for all codes, that the negative of the given line's sum is above 0. It is only at least 0
+// where the given line asks for a sum above 0. `wholes` are the sets of all codes.
 fn contrary(alloc: Global, line: &Line, wholes: &[u64]) -> Result<Line, OutOfMemory>
     requires { wholes.now ≡ whole_sets line.now.shape }
     ensures { IfOk result (λ other. other ≡ contrary line.now) }
@@ -65,7 +67,7 @@ fn negatives(alloc: Global, numbers: &[i128]) -> Result<Vec<i128>, OutOfMemory>
     Ok(others)
 }
 
-// The negative of a number.
+// The negative of a number in range, which is in range too.
 fn negative(number: i128) -> i128
     requires { InRange number }
     ensures value { result ≡ neg_ℤ number }
@@ -74,8 +76,8 @@ fn negative(number: i128) -> i128
     -number
 }
 
-// Puts the line last that the code of the field at the place is never outside its set, where that is not
-// whole.
+// Puts last the line that says that the code of the field at the place is never outside its set. Where the
+// set is whole it puts none. `wholes` are the sets of all codes.
 fn push_never(
     alloc: Global,
     negation: &mut Vec<Line>,
@@ -100,7 +102,8 @@ fn push_never(
     Ok(())
 }
 
-// The line that says that the codes are never in these sets.
+// The line that says that the codes are never in all of `sets`: where they are, it asks that -1 is at
+// least 0. It is over the shape of `line`.
 fn never(alloc: Global, line: &Line, sets: Vec<u64>) -> Result<Line, OutOfMemory>
     requires { AreSets sets.items (whole_sets line.now.shape) }
     ensures { IfOk result (λ other. other ≡ never line.now.shape sets.items) }

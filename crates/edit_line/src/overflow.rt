@@ -1,3 +1,4 @@
+//! The answer where a line's sum at a record leaves the range of numbers.
 ghost use Rattle.std.specs.Prelude.{Some, ◌++◌, codes};
 ghost use Rattle.std.specs.Fmt.{decimal};
 
@@ -12,6 +13,7 @@ pub struct LineOverflow {
 impl fmt::Display for LineOverflow {
     ghost output = { λ fault. Some (codes "a number is out of range at field " ++ decimal fault.field) };
 
+    // Writes what is printed of the fault, without a line feed: it names the number of the field.
     fn fmt<W: fmt::Write>(&self, f: &mut fmt::Formatter<W>) -> fmt::Result {
         write!(f, "a number is out of range at field {}", self.field)
     }

@@ -1,3 +1,4 @@
+//! Places among the numbers of a line, by which an overflow is named, and places of fields in a list.
 ghost use Rattle.std.specs.Prelude.{◌≡◌};
 ghost use Rattle.edit_line.specs.Shapes.{place_in};
 
@@ -10,7 +11,8 @@ pub enum Place {
     Constant,
 }
 
-/// The place of a field among these, past the end where it is none of them. No memory.
+/// The place of a field in this list of fields, from 0, and the list's length where it is none of them. No
+/// memory.
 pub fn place_among(fields: &[u32], field: u32) -> usize
     ensures { result ≡ place_in fields.now field }
 {

@@ -1,3 +1,4 @@
+//! What a line asks of its sum, and what becomes of that where lines are multiplied, added or negated.
 ghost use Rattle.std.specs.Prelude.{◌≡◌};
 ghost use Rattle.edit_line.specs.Combinations.{joined, may_multiply};
 ghost use Rattle.edit_line.specs.Equality.{same_relation};
@@ -24,7 +25,7 @@ impl Relation {
         matches!(self, Relation::Equal)
     }
 
-    /// Whether a number is at least 0, above 0, or 0, as the relation says. No memory.
+    /// Whether the relation holds of a number: it is at least 0, above 0, or 0. No memory.
     pub(crate) fn is_enough(self, number: i128) -> bool
         ensures { result ≡ is_enough self number }
     {
@@ -35,7 +36,7 @@ impl Relation {
         }
     }
 
-    /// Whether each number that is enough here is enough for the other. No memory.
+    /// Whether each number of which this relation holds meets the other relation too. No memory.
     pub(crate) fn implies(self, other: Relation) -> bool
         ensures { result ≡ implies self other }
     {
@@ -46,8 +47,8 @@ impl Relation {
         }
     }
 
-    /// Whether a line with this relation may be multiplied so: by a number above 0, and an equality by any but
-    /// 0 of absolute value at most `2^127 - 1`. No memory.
+    /// Whether a line with this relation may be multiplied by the number. It must be above 0; for an
+    /// equality it may be any but 0 that is in range, as -2^127 is not. No memory.
     pub fn may_multiply(self, number: i128) -> bool
         ensures { result ≡ may_multiply self number }
     {
@@ -57,8 +58,8 @@ impl Relation {
         }
     }
 
-    /// The relation of the sum of two lines: equal where both are, above where one is, else at least. No
-    /// memory.
+    /// The relation of the sum of two lines. It asks for 0 where both do, for more than 0 where one of
+    /// them does, and else for at least 0. No memory.
     pub(crate) fn joined(self, other: Relation) -> Relation
         ensures { result ≡ joined self other }
     {
@@ -72,8 +73,8 @@ impl Relation {
         }
     }
 
-    /// What the negative of a sum is where the sum is not enough; that of an equality may be above or below
-    /// 0, so it stays. No memory.
+    /// What holds of the negative of a sum of which this relation does not hold. An equality has no such
+    /// relation, since the negative may be above or below 0; it stays. No memory.
     pub(crate) fn contrary_relation(self) -> Relation
         ensures { result ≡ contrary_relation self }
     {

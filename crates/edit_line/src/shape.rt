@@ -1,3 +1,4 @@
+//! The shape of a survey, which is all that elimination and boxes know of it.
 ghost use Rattle.std.specs.Prelude.{◌≡◌, ◌≤◌, ◌-◌, ◌^◌, ◌++◌, [], ◌∷◌, All, IfOk, OnOk, length, map};
 ghost use Rattle.edit_line.specs.inner.CodeCounts.{code_count};
 ghost use Rattle.edit_line.specs.CodeFields.{size_of};
@@ -42,7 +43,7 @@ impl Shape {
         &self.codes[..self.count]
     }
 
-    /// How many codes the field has, none where it is not categorical. No memory.
+    /// How many codes the field has, 0 where it is numerical or no field of the survey. No memory.
     pub fn size_of(&self, field: u32) -> u8
         ensures size { result ≡ size_of (domains_of self.now.count self.now.codes) field }
         ensures few { result ≤ 64 }
@@ -68,7 +69,7 @@ impl Shape {
     }
 }
 
-// Puts the set of this number of codes last, and nothing where there are none.
+// Puts the set of a field's `count` codes last. A numerical field, which has 0 codes, has no set.
 fn push_whole(sets: &mut Vec<u64>, count: u8) -> Result<(), OutOfMemory>
     requires { count ≤ 64 }
     ensures { OnOk result (sets.new.items ≡ sets.old.items ++ whole_sets (domain_with count ∷ [])) }
@@ -79,7 +80,7 @@ fn push_whole(sets: &mut Vec<u64>, count: u8) -> Result<(), OutOfMemory>
     Ok(())
 }
 
-/// The set of the first codes, by their number, as bits. No memory.
+/// The set, as bits, of the first `count` codes, which are all codes of a field with so many. No memory.
 pub fn whole_set(count: u8) -> u64
     requires { count ≤ 64 }
     ensures { result ≡ 2 ^ count - 1 }

@@ -17,7 +17,8 @@ use fraction128::{Fraction, Overflow};
 
 /// The line's sum at the record: the constant, and then factor * value at each numerical field whose
 /// factor is not 0, in declared order. Such a field that is Bad adds nothing. Overflow exactly where a
-/// number of the formula leaves the range, at the first field at which one does. No memory.
+/// number on the way leaves the range; it names the first field at which one does. At a point with the
+/// record's values at these fields, the sum is the same (`amount`). No memory.
 pub fn value_at(survey: &Survey, line: &Line, row: &Row) -> Result<Fraction, LineOverflow>
     requires shape { line.now.shape ≡ shape_of survey.now.fields }
     requires row { IsRow survey.now.fields row.now }
@@ -31,7 +32,8 @@ pub fn value_at(survey: &Survey, line: &Line, row: &Row) -> Result<Fraction, Lin
 }
 
 /// Whether the linear part is false at the record: its sum, as [`value_at`] tells it, is not at least 0,
-/// above 0, or 0, as the relation says. The refusal is that of [`value_at`]. No memory.
+/// above 0, or 0, as the relation says. The codes are not looked at, so the line may still hold where its
+/// linear part fails. The refusal is that of [`value_at`]. No memory.
 pub fn fails(survey: &Survey, line: &Line, row: &Row) -> Result<bool, LineOverflow>
     requires shape { line.now.shape ≡ shape_of survey.now.fields }
     requires row { IsRow survey.now.fields row.now }
@@ -45,7 +47,9 @@ pub fn fails(survey: &Survey, line: &Line, row: &Row) -> Result<bool, LineOverfl
     Ok(!line.relation().is_enough(sum.numerator()))
 }
 
-// The constant, and then factor * value at each of the fields whose factor is not 0.
+// The constant, and then factor * value at each of the fields whose factor is not 0, in this order.
+// `factors` has one factor for each of `fields`. Overflow names the first field at which a number leaves
+// the range.
 fn sum_over(
     fields: &[u32],
     factors: &[i128],
@@ -66,7 +70,8 @@ fn sum_over(
     Ok(sum)
 }
 
-// The sum with the factor times the record's number at the field.
+// The sum with the factor times the record's number at the field, which an overflow names. Where the factor
+// is 0 nothing is added, so nothing can overflow.
 #[inline(always)]
 fn with_field(sum: Fraction, factor: i128, field: u32, row: &Row) -> Result<Fraction, LineOverflow>
     requires in_range { InRange factor }

@@ -1,4 +1,5 @@
-use Rattle.std.proofs.Common.{◌≡◌, ◌≢◌, ℕ, zero, suc, ◌&&◌, ◌||◌, not, nat_eq, Bool, true, false, List, [], ◌∷◌, length, map, ℤ, pos, int_le, int_lt, refl, sym, ap, ◌∙◌, subst, arith}
+use Rattle.std.proofs.Common.{◌≡◌, ◌≢◌, ℕ, zero, suc, ◌&&◌, ◌||◌, not, nat_eq, Bool, true, false, List, [], ◌∷◌, length, map, ℤ, pos, int_le, int_lt, refl, sym}
+use Rattle.std.proofs.Common.{ap, ◌∙◌, subst, arith}
 use Rattle.std.specs.Bool.{Decides}
 use Rattle.std.specs.Int.{bit_at}
 use Rattle.std.specs.Ordering.{int_eq}
@@ -34,7 +35,8 @@ one-Decides b line p d = (λ h. only (d.0 h), λ all. d.1 (all 0 line (omega ari
     only holds zero d below = holds
     only holds (suc k) d below = absurd (omega arith)
 
-two-Decide : (a b : Bool) (line next : LineParts) (p : Point) → Decides a (LineHolds line p) → Decides b (LineHolds next p) → Decides (a && b) (AllHold (line ∷ next ∷ []) p)
+two-Decide : (a b : Bool) (line next : LineParts) (p : Point) → Decides a (LineHolds line p) → Decides b (LineHolds next p)
+    → Decides (a && b) (AllHold (line ∷ next ∷ []) p)
 two-Decide a b line next p first second =
     let both = both_decide a b first second in (λ h. together (both.0 h).0 (both.0 h).1, λ all. both.1 (all 0 line (omega arith), all 1 line (omega arith)))
   where
@@ -49,7 +51,8 @@ other {P} a b e d = subst (λ (c : Bool). Decides c P) e d
 -- ---- one line
 
 -- a line that is divided says that the sum is enough where the codes are in the sets
-divided-Decides : (line : LineParts) (b : Bool) (p : Point) → Decides b (IsEnough line.relation (amount line p)) → Decides (not (are_codes_in line.sets (codes_at line.shape p)) || b) (LineHolds (reduced line) p)
+divided-Decides : (line : LineParts) (b : Bool) (p : Point) → Decides b (IsEnough line.relation (amount line p))
+    → Decides (not (are_codes_in line.sets (codes_at line.shape p)) || b) (LineHolds (reduced line) p)
 divided-Decides line b p d = by (are_codes_in line.sets (codes_at line.shape p)) (is_inside-Decides line.sets (codes_at line.shape p))
   where
     by : (i : Bool) → Decides i (AreCodesIn line.sets (codes_at line.shape p)) → Decides (not i || b) (LineHolds (reduced line) p)
@@ -69,13 +72,16 @@ module _ (shape : List Domain) (sets : List ℕ) (e : Linear) (p : Point) (has :
   unfolding inside sum
   positive relation =
       divided-Decides (parts_of shape sets (map (term_factor e.terms) (number_fields shape)) e.constant relation) (is_enough relation (linear_sum e p)) p
-      (subst (λ (z : ℤ). Decides (is_enough relation (linear_sum e p)) (IsEnough relation z)) (sym (amount-sum p shape sets e relation has)) (is_enough-Decides relation (linear_sum e p)))
+      (subst (λ (z : ℤ). Decides (is_enough relation (linear_sum e p)) (IsEnough relation z)) (sym (amount-sum p shape sets e relation has))
+      (is_enough-Decides relation (linear_sum e p)))
 
   negative : (relation : Relation) → Decides (not inside || is_enough relation (neg_ℤ sum)) (LineHolds (negative_line_of shape sets e relation) p)
   unfolding inside sum
   negative relation =
-      divided-Decides (parts_of shape sets (map (λ f. neg_ℤ (term_factor e.terms f)) (number_fields shape)) (neg_ℤ e.constant) relation) (is_enough relation (neg_ℤ (linear_sum e p))) p
-      (subst (λ (z : ℤ). Decides (is_enough relation (neg_ℤ (linear_sum e p))) (IsEnough relation z)) (sym (amount-negative p shape sets e relation has)) (is_enough-Decides relation (neg_ℤ (linear_sum e p))))
+      divided-Decides (parts_of shape sets (map (λ f. neg_ℤ (term_factor e.terms f)) (number_fields shape)) (neg_ℤ e.constant) relation)
+      (is_enough relation (neg_ℤ (linear_sum e p))) p
+      (subst (λ (z : ℤ). Decides (is_enough relation (neg_ℤ (linear_sum e p))) (IsEnough relation z)) (sym (amount-negative p shape sets e relation has))
+      (is_enough-Decides relation (neg_ℤ (linear_sum e p))))
 
   le_is : (z : ℤ) → is_enough AtLeast (neg_ℤ z) ≡ int_le z (pos 0)
   le_is z = grind (arith, ints)
@@ -87,35 +93,41 @@ module _ (shape : List Domain) (sets : List ℕ) (e : Linear) (p : Point) (has :
   eq_is z = grind (arith, ints)
 
   -- the lines of a comparison hold where it does, or some code is outside its set
-  pub compare-Decides : (c : Compare) → Decides (not (are_codes_in sets (codes_at shape p)) || compares c (linear_sum e p)) (AllHold (compare_lines shape sets e c) p)
+  pub compare-Decides : (c : Compare) → Decides (not (are_codes_in sets (codes_at shape p)) || compares c (linear_sum e p))
+      (AllHold (compare_lines shape sets e c) p)
   unfolding inside sum
   compare-Decides Ge = one-Decides _ _ p (positive AtLeast)
   compare-Decides Gt = one-Decides _ _ p (positive Above)
   compare-Decides Le = one-Decides _ _ p (other _ _ (ap (λ b. not inside || b) (le_is sum)) (negative AtLeast))
   compare-Decides Lt = one-Decides _ _ p (other _ _ (ap (λ b. not inside || b) (lt_is sum)) (negative Above))
-  compare-Decides Eq = other _ _ (shared (not inside) (is_enough AtLeast sum) (is_enough AtLeast (neg_ℤ sum)) ∙ ap (λ b. not inside || b) (eq_is sum)) (two-Decide _ _ _ _ p (positive AtLeast) (negative AtLeast))
+  compare-Decides Eq = other _ _ (shared (not inside) (is_enough AtLeast sum) (is_enough AtLeast (neg_ℤ sum)) ∙ ap (λ b. not inside || b) (eq_is sum))
+      (two-Decide _ _ _ _ p (positive AtLeast) (negative AtLeast))
     where
       shared : (i a b : Bool) → ((i || a) && (i || b)) ≡ (i || (a && b))
       shared true a b = refl
       shared false a b = refl
 
   -- so do those of a comparison without conditions, where the codes are in the whole sets
-  pub always-Decides : (c : Compare) → sets ≡ whole_sets shape → are_codes_in sets (codes_at shape p) ≡ true → Decides (compares c (linear_sum e p)) (AllHold (compare_always shape e c) p)
+  pub always-Decides : (c : Compare) → sets ≡ whole_sets shape → are_codes_in sets (codes_at shape p) ≡ true
+      → Decides (compares c (linear_sum e p)) (AllHold (compare_always shape e c) p)
   unfolding inside sum
   always-Decides c are all = by c (among (compare-Decides c))
     where
       among : {P : Type 0} {b : Bool} → Decides (not (are_codes_in sets (codes_at shape p)) || b) P → Decides b P
       among {P} {b} d = subst (λ (i : Bool). Decides (not i || b) P) all d
 
-      whole : (c : Compare) → Decides (compares c (linear_sum e p)) (AllHold (compare_lines shape sets e c) p) → Decides (compares c (linear_sum e p)) (AllHold (compare_lines shape (whole_sets shape) e c) p)
+      whole : (c : Compare) → Decides (compares c (linear_sum e p)) (AllHold (compare_lines shape sets e c) p)
+          → Decides (compares c (linear_sum e p)) (AllHold (compare_lines shape (whole_sets shape) e c) p)
       whole c d = subst (λ (ss : List ℕ). Decides (compares c (linear_sum e p)) (AllHold (compare_lines shape ss e c) p)) are d
 
-      by : (c : Compare) → Decides (compares c (linear_sum e p)) (AllHold (compare_lines shape sets e c) p) → Decides (compares c (linear_sum e p)) (AllHold (compare_always shape e c) p)
+      by : (c : Compare) → Decides (compares c (linear_sum e p)) (AllHold (compare_lines shape sets e c) p)
+          → Decides (compares c (linear_sum e p)) (AllHold (compare_always shape e c) p)
       by Ge d = whole Ge d
       by Gt d = whole Gt d
       by Le d = whole Le d
       by Lt d = whole Lt d
-      by Eq d = subst (λ (ss : List ℕ). Decides (compares Eq (linear_sum e p)) (AllHold (positive_line_of shape ss e Equal ∷ []) p)) are (one-Decides _ _ p (among (positive Equal)))
+      by Eq d = subst (λ (ss : List ℕ). Decides (compares Eq (linear_sum e p)) (AllHold (positive_line_of shape ss e Equal ∷ []) p)) are
+          (one-Decides _ _ p (among (positive Equal)))
 
   not_ge : (z : ℤ) → is_enough Above (neg_ℤ z) ≡ not (int_le (pos 0) z)
   not_ge z = grind (arith, ints)
@@ -130,7 +142,8 @@ module _ (shape : List Domain) (sets : List ℕ) (e : Linear) (p : Point) (has :
   not_lt z = grind (arith, ints)
 
   -- the lines of its contrary hold where it does not, or some code is outside its set
-  pub contrary-Decides : (c : Compare) → c ≢ Eq → Decides (not (are_codes_in sets (codes_at shape p)) || not (compares c (linear_sum e p))) (AllHold (contrary_lines shape sets e c) p)
+  pub contrary-Decides : (c : Compare) → c ≢ Eq → Decides (not (are_codes_in sets (codes_at shape p)) || not (compares c (linear_sum e p)))
+      (AllHold (contrary_lines shape sets e c) p)
   unfolding inside sum
   contrary-Decides Ge apart = one-Decides _ _ p (other _ _ (ap (λ b. not inside || b) (not_ge sum)) (negative Above))
   contrary-Decides Gt apart = one-Decides _ _ p (other _ _ (ap (λ b. not inside || b) (not_gt sum)) (negative AtLeast))

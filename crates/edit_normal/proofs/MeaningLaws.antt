@@ -21,7 +21,8 @@ use Rattle.edit_normal.proofs.RuleForms.{fits-rule}
 
 -- ---- lists of lines
 
-lines-append : (first second : List RuleLine) → map (λ (l : RuleLine). l.line) (first ++ second) ≡ map (λ (l : RuleLine). l.line) first ++ map (λ (l : RuleLine). l.line) second
+lines-append : (first second : List RuleLine) → map (λ (l : RuleLine). l.line) (first ++ second) ≡ map (λ (l : RuleLine). l.line) first
+    ++ map (λ (l : RuleLine). l.line) second
 lines-append [] second = refl
 lines-append (l ∷ first) second = ap (λ (ls : List LineParts). l.line ∷ ls) (lines-append first second)
 
@@ -30,13 +31,16 @@ numbered-lines i [] = refl
 numbered-lines i (line ∷ lines) = ap (λ (ls : List LineParts). line ∷ ls) (numbered-lines i lines)
 
 -- the numbered lines of the rules, without their numbers
-lines-alone : (shape : List Domain) (i : ℕ) (rules : List Rule) → map (λ (l : RuleLine). l.line) (rule_lines_from shape i rules) ≡ flat_map (λ rule. rule_lines_of shape rule) rules
+lines-alone : (shape : List Domain) (i : ℕ) (rules : List Rule) → map (λ (l : RuleLine). l.line) (rule_lines_from shape i rules)
+    ≡ flat_map (λ rule. rule_lines_of shape rule) rules
 lines-alone shape i [] = refl
 lines-alone shape i (rule ∷ rules) =
     lines-append (numbered i (rule_lines_of shape rule)) (rule_lines_from shape (suc i) rules)
-    ∙ ap (λ (ls : List LineParts). ls ++ map (λ (l : RuleLine). l.line) (rule_lines_from shape (suc i) rules)) (numbered-lines i (rule_lines_of shape rule)) ∙ ap (λ (ls : List LineParts). rule_lines_of shape rule ++ ls) (lines-alone shape (suc i) rules)
+    ∙ ap (λ (ls : List LineParts). ls ++ map (λ (l : RuleLine). l.line) (rule_lines_from shape (suc i) rules)) (numbered-lines i (rule_lines_of shape rule))
+    ∙ ap (λ (ls : List LineParts). rule_lines_of shape rule ++ ls) (lines-alone shape (suc i) rules)
 
-pub lines-all : (survey : SurveyParts) (lines : List RuleLine) → lines ≡ rule_lines_from (shape_of survey.fields) 0 survey.rules → map (λ (l : RuleLine). l.line) lines ≡ normal_lines_of survey
+pub lines-all : (survey : SurveyParts) (lines : List RuleLine) → lines ≡ rule_lines_from (shape_of survey.fields) 0 survey.rules
+    → map (λ (l : RuleLine). l.line) lines ≡ normal_lines_of survey
 lines-all survey lines is = ap (λ (ls : List RuleLine). map (λ (l : RuleLine). l.line) ls) is ∙ lines-alone (shape_of survey.fields) 0 survey.rules
 
 -- ---- they are over the survey's fields
@@ -46,13 +50,16 @@ rules-over shape rules = all-in (λ (line : LineParts). line.shape ≡ shape) (f
     let (rule, was, made) = in-flat_map-out (λ (rule : Rule). rule_lines_of shape rule) line rules there in
     in-all (λ (line : LineParts). line.shape ≡ shape) line _ (rule-own shape rule) (in-filter-out (λ (l : LineParts). none_is_empty l.sets) line _ made).0)
 
-pub lines-over : (survey : SurveyParts) (lines : List RuleLine) → lines ≡ rule_lines_from (shape_of survey.fields) 0 survey.rules → AreOver (shape_of survey.fields) (map (λ (l : RuleLine). l.line) lines)
-lines-over survey lines is = subst (λ (ls : List LineParts). AreOver (shape_of survey.fields) ls) (sym (lines-all survey lines is)) (rules-over (shape_of survey.fields) survey.rules)
+pub lines-over : (survey : SurveyParts) (lines : List RuleLine) → lines ≡ rule_lines_from (shape_of survey.fields) 0 survey.rules
+    → AreOver (shape_of survey.fields) (map (λ (l : RuleLine). l.line) lines)
+lines-over survey lines is = subst (λ (ls : List LineParts). AreOver (shape_of survey.fields) ls) (sym (lines-all survey lines is))
+    (rules-over (shape_of survey.fields) survey.rules)
 
 -- ---- what they say
 
 module _ (fields : List Field) (p : Point) (held : HasCodesFrom 0 fields p) where
-  rules-same : (rules : List Rule) → All (IsRule fields) rules → AllHold (flat_map (λ rule. rule_lines_of (shape_of fields) rule) rules) p ↔ AllByRecursion (λ rule. Holds rule p) rules
+  rules-same : (rules : List Rule) → All (IsRule fields) rules → AllHold (flat_map (λ rule. rule_lines_of (shape_of fields) rule) rules) p ↔ AllByRecursion
+      (λ rule. Holds rule p) rules
   rules-same [] are = (λ _. tt, λ _. λ k d below. absurd (omega arith))
   rules-same (rule ∷ rules) are =
       let truth = normal-Decides (shape_of fields) rule p (fits-rule fields rule (are 0 rule (omega arith))) (HasCodes-shape 0 fields p held) in
@@ -60,11 +67,14 @@ module _ (fields : List Field) (p : Point) (held : HasCodesFrom 0 fields p) wher
       let own = rule_lines_of (shape_of fields) rule in
       let others = flat_map (λ rule. rule_lines_of (shape_of fields) rule) rules in (
         λ hold. (
-          truth.1 (all-in (λ line. LineHolds line p) own (λ line there. in-all (λ line. LineHolds line p) line (own ++ others) hold (in-left line own others there))),
-          rest.0 (all-in (λ line. LineHolds line p) others (λ line there. in-all (λ line. LineHolds line p) line (own ++ others) hold (in-right line own others there))),
+          truth.1 (all-in (λ line. LineHolds line p) own (λ line there. in-all (λ line. LineHolds line p) line (own ++ others) hold
+              (in-left line own others there))),
+          rest.0 (all-in (λ line. LineHolds line p) others (λ line there. in-all (λ line. LineHolds line p) line (own ++ others) hold
+              (in-right line own others there))),
         ),
         λ hold. All-append (λ line. LineHolds line p) own others (truth.0 hold.0) (rest.1 hold.1),
       )
 
-pub lines-mean : (survey : SurveyParts) (p : Point) → IsWellFormed survey → HasCodesFrom 0 survey.fields p → AllHold (normal_lines_of survey) p ↔ AllByRecursion (λ rule. Holds rule p) survey.rules
+pub lines-mean : (survey : SurveyParts) (p : Point) → IsWellFormed survey → HasCodesFrom 0 survey.fields p
+    → AllHold (normal_lines_of survey) p ↔ AllByRecursion (λ rule. Holds rule p) survey.rules
 lines-mean survey p well held = rules-same survey.fields p held survey.rules well.rules

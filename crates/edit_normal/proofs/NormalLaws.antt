@@ -1,4 +1,5 @@
-use Rattle.std.proofs.Common.{◌≡◌, ◌≢◌, ◌↔◌, ℕ, zero, suc, ◌+◌, ◌*◌, ◌<◌, ◌≤◌, ◌==◌, cond, Some, slice_get, ◌++◌, ◌&&◌, ◌||◌, not, Bool, true, false, List, [], ◌∷◌, All, length, refl, sym, ap, ◌∙◌, subst, arith}
+use Rattle.std.proofs.Common.{◌≡◌, ◌≢◌, ◌↔◌, ℕ, zero, suc, ◌+◌, ◌*◌, ◌<◌, ◌≤◌, ◌==◌, cond, Some, slice_get, ◌++◌, ◌&&◌, ◌||◌, not, Bool, true, false, List, []}
+use Rattle.std.proofs.Common.{◌∷◌, All, length, refl, sym, ap, ◌∙◌, subst, arith}
 use Rattle.std.specs.Bool.{Decides}
 use Rattle.std.specs.List.{count_by, filter, list_any}
 use Rattle.std.proofs.lemmas.Bool.Decides.{Decides-eqb}
@@ -19,7 +20,8 @@ use Rattle.edit_line.specs.Sets.{none_is_empty, are_codes_in}
 use Rattle.edit_line.specs.Shapes.{Domain, HasCodes, code_fields, codes_at, has_field, whole_sets}
 use Rattle.edit_line.proofs.ShapeLaws.{length-wholes}
 use Rattle.edit_line.proofs.Members.{all-in, in-all, in-filter, in-filter-out}
-use Rattle.edit_normal.specs.NormalForm.{all_lines_of, always_lines, compare_always, compare_lines, contrary_lines, implied_lines, lines_under, narrowed, rule_lines_of}
+use Rattle.edit_normal.specs.NormalForm.{all_lines_of, always_lines, compare_always, compare_lines, contrary_lines, implied_lines, lines_under, narrowed}
+use Rattle.edit_normal.specs.NormalForm.{rule_lines_of}
 use Rattle.edit_normal.specs.RuleLines.{LinesHold, rule_lines_from, numbered}
 use Rattle.edit_normal.specs.declared.rule_line.RuleLine.{RuleLine}
 use Rattle.edit_normal.proofs.LineSteps.{always-Decides, compare-Decides, contrary-Decides, empty-holds, one-Decides}
@@ -59,18 +61,25 @@ module _ (shape : List Domain) (p : Point) (held : HasCodes 0 shape p) where
   other {P} a b e d = subst (λ (c : Bool). Decides c P) e d
 
   -- what the lines say: some code is outside its set, or a condition is false, or the conclusion is true
-  pub implied-Decides : (sets : List ℕ) (conditions : List Test) (conclusion : Test) → length sets ≡ length (code_fields shape) → FitsRule shape conditions conclusion
-      → Decides (not (are_codes_in sets (codes_at shape p)) || (list_any (λ (t : Test). not (test_holds t p)) conditions || test_holds conclusion p)) (AllHold (implied_lines shape sets conditions conclusion) p)
+  pub implied-Decides : (sets : List ℕ) (conditions : List Test) (conclusion : Test) → length sets ≡ length (code_fields shape)
+      → FitsRule shape conditions conclusion
+      → Decides (not (are_codes_in sets (codes_at shape p)) || (list_any (λ (t : Test). not (test_holds t p)) conditions || test_holds conclusion p))
+      (AllHold (implied_lines shape sets conditions conclusion) p)
   implied-Decides sets [] (Number e) same fits = compare-Decides shape sets e p fits e.compare
   implied-Decides sets [] (Codes field negated codes) same fits =
-      one-Decides _ _ p (other _ _ (ap not (narrowed-inside shape sets field (not negated) codes p same fits held) ∙ ap (λ b. not (are_codes_in sets (codes_at shape p) && b)) (turned-test field negated codes) ∙ opened (are_codes_in sets (codes_at shape p)) (test_holds (Codes field negated codes) p)) (never-Decides shape (narrowed shape sets field (not negated) codes) p))
+      one-Decides _ _ p (other _ _ (ap not (narrowed-inside shape sets field (not negated) codes p same fits held)
+      ∙ ap (λ b. not (are_codes_in sets (codes_at shape p) && b)) (turned-test field negated codes)
+      ∙ opened (are_codes_in sets (codes_at shape p)) (test_holds (Codes field negated codes) p))
+      (never-Decides shape (narrowed shape sets field (not negated) codes) p))
     where
       opened : (i t : Bool) → not (i && not t) ≡ (not i || t)
       opened true true = refl
       opened true false = refl
       opened false t = refl
   implied-Decides sets (Codes field negated codes ∷ conditions) conclusion same fits =
-      other _ _ (ap (λ b. not b || (list_any (λ (t : Test). not (test_holds t p)) conditions || test_holds conclusion p)) (narrowed-inside shape sets field negated codes p same fits.0 held) ∙ opened (are_codes_in sets (codes_at shape p)) (test_holds (Codes field negated codes) p) _ _)
+      other _ _ (ap (λ b. not b || (list_any (λ (t : Test). not (test_holds t p)) conditions || test_holds conclusion p))
+      (narrowed-inside shape sets field negated codes p same fits.0 held) ∙ opened (are_codes_in sets (codes_at shape p))
+      (test_holds (Codes field negated codes) p) _ _)
       (implied-Decides (narrowed shape sets field negated codes) conditions conclusion (narrowed-length shape sets field negated codes ∙ same) fits.1)
     where
       opened : (i t r q : Bool) → (not (i && t) || (r || q)) ≡ (not i || ((not t || r) || q))
@@ -78,7 +87,9 @@ module _ (shape : List Domain) (p : Point) (held : HasCodes 0 shape p) where
       opened true false r q = refl
       opened false t r q = refl
   implied-Decides sets (Number e ∷ []) (Codes field negated codes) same fits =
-      other _ _ (ap (λ b. not b || not (compares e.compare (linear_sum e p))) (narrowed-inside shape sets field (not negated) codes p same fits.2 held) ∙ ap (λ b. not (are_codes_in sets (codes_at shape p) && b) || not (compares e.compare (linear_sum e p))) (turned-test field negated codes) ∙ opened (are_codes_in sets (codes_at shape p)) (test_holds (Codes field negated codes) p) (compares e.compare (linear_sum e p)))
+      other _ _ (ap (λ b. not b || not (compares e.compare (linear_sum e p))) (narrowed-inside shape sets field (not negated) codes p same fits.2 held)
+      ∙ ap (λ b. not (are_codes_in sets (codes_at shape p) && b) || not (compares e.compare (linear_sum e p))) (turned-test field negated codes)
+      ∙ opened (are_codes_in sets (codes_at shape p)) (test_holds (Codes field negated codes) p) (compares e.compare (linear_sum e p)))
       (contrary-Decides shape (narrowed shape sets field (not negated) codes) e p fits.0 e.compare fits.1)
     where
       opened : (i t c : Bool) → (not (i && not t) || not c) ≡ (not i || ((not c || false) || t))
@@ -123,23 +134,29 @@ module _ (shape : List Domain) where
   contrary-over sets e Lt same = one-over _ (refl, same)
   contrary-over sets e Eq same = λ k d below. absurd (omega arith)
 
-  implied-over : (sets : List ℕ) (conditions : List Test) (conclusion : Test) → length sets ≡ length (code_fields shape) → All IsOver (implied_lines shape sets conditions conclusion)
+  implied-over : (sets : List ℕ) (conditions : List Test) (conclusion : Test) → length sets ≡ length (code_fields shape)
+      → All IsOver (implied_lines shape sets conditions conclusion)
   unfolding IsOver
   implied-over sets [] (Number e) same = compare-over sets e e.compare same
   implied-over sets [] (Codes field negated codes) same = one-over _ (refl, narrowed-length shape sets field (not negated) codes ∙ same)
-  implied-over sets (Codes field negated codes ∷ conditions) conclusion same = implied-over (narrowed shape sets field negated codes) conditions conclusion (narrowed-length shape sets field negated codes ∙ same)
-  implied-over sets (Number e ∷ conditions) (Codes field negated codes) same = contrary-over (narrowed shape sets field (not negated) codes) e e.compare (narrowed-length shape sets field (not negated) codes ∙ same)
+  implied-over sets (Codes field negated codes ∷ conditions) conclusion same = implied-over (narrowed shape sets field negated codes) conditions conclusion
+      (narrowed-length shape sets field negated codes ∙ same)
+  implied-over sets (Number e ∷ conditions) (Codes field negated codes) same = contrary-over (narrowed shape sets field (not negated) codes) e e.compare
+      (narrowed-length shape sets field (not negated) codes ∙ same)
   implied-over sets (Number e ∷ conditions) (Number c) same = λ k d below. absurd (omega arith)
 
   -- lines with an empty set may be left out
-  without-empty : (lines : List LineParts) (p : Point) → All IsOver lines → AllHold lines p ↔ AllHold (filter (λ (line : LineParts). none_is_empty line.sets) lines) p
+  without-empty : (lines : List LineParts) (p : Point) → All IsOver lines → AllHold lines p ↔ AllHold
+      (filter (λ (line : LineParts). none_is_empty line.sets) lines) p
   unfolding IsOver
   without-empty lines p over = (
-    λ holds. all-in (λ line. LineHolds line p) _ (λ line there. in-all (λ line. LineHolds line p) line lines holds (in-filter-out (λ (l : LineParts). none_is_empty l.sets) line lines there).0),
+    λ holds. all-in (λ line. LineHolds line p) _ (λ line there. in-all (λ line. LineHolds line p) line lines holds
+        (in-filter-out (λ (l : LineParts). none_is_empty l.sets) line lines there).0),
     λ holds. all-in (λ line. LineHolds line p) lines (λ line there. by line there (none_is_empty line.sets) refl holds),
   )
     where
-      by : (line : LineParts) → IsIn line lines → (b : Bool) → none_is_empty line.sets ≡ b → AllHold (filter (λ (line : LineParts). none_is_empty line.sets) lines) p → LineHolds line p
+      by : (line : LineParts) → IsIn line lines → (b : Bool) → none_is_empty line.sets ≡ b
+          → AllHold (filter (λ (line : LineParts). none_is_empty line.sets) lines) p → LineHolds line p
       by line there true e holds = in-all (λ line. LineHolds line p) line _ holds (in-filter (λ (l : LineParts). none_is_empty l.sets) line lines e there)
       by line there false e holds =
           let is = in-all (λ (l : LineParts). (l.shape ≡ shape) × (length l.sets ≡ length (code_fields shape))) line lines over there in
@@ -176,9 +193,11 @@ under-Decides shape conditions conclusion p fits held = by conditions conclusion
     inside = whole-inside 0 shape p held
 
     implied : (conditions : List Test) (conclusion : Test) → FitsRule shape conditions conclusion
-        → Decides (list_any (λ (t : Test). not (test_holds t p)) conditions || test_holds conclusion p) (AllHold (implied_lines shape (whole_sets shape) conditions conclusion) p)
+        → Decides (list_any (λ (t : Test). not (test_holds t p)) conditions || test_holds conclusion p)
+        (AllHold (implied_lines shape (whole_sets shape) conditions conclusion) p)
     implied conditions conclusion fits =
-        subst (λ (i : Bool). Decides (not i || (list_any (λ (t : Test). not (test_holds t p)) conditions || test_holds conclusion p)) (AllHold (implied_lines shape (whole_sets shape) conditions conclusion) p)) inside
+        subst (λ (i : Bool). Decides (not i || (list_any (λ (t : Test). not (test_holds t p)) conditions || test_holds conclusion p))
+        (AllHold (implied_lines shape (whole_sets shape) conditions conclusion) p)) inside
         (implied-Decides shape p held (whole_sets shape) conditions conclusion (length-wholes 0 shape) fits)
 
     by : (conditions : List Test) (conclusion : Test) → FitsRule shape conditions conclusion
@@ -188,7 +207,8 @@ under-Decides shape conditions conclusion p fits held = by conditions conclusion
     by (condition ∷ conditions) conclusion fits = implied (condition ∷ conditions) conclusion fits
 
 -- the lines of a rule all hold at a point exactly where the rule does
-pub normal-Decides : (shape : List Domain) (rule : Rule) (p : Point) → FitsRule shape rule.conditions rule.conclusion → HasCodes 0 shape p → Decides (rule_holds rule p) (AllHold (rule_lines_of shape rule) p)
+pub normal-Decides : (shape : List Domain) (rule : Rule) (p : Point) → FitsRule shape rule.conditions rule.conclusion → HasCodes 0 shape p
+    → Decides (rule_holds rule p) (AllHold (rule_lines_of shape rule) p)
 normal-Decides shape rule p fits held =
     let all = under-Decides shape rule.conditions rule.conclusion p fits held in
     let filtered = without-empty shape _ p (under-over shape rule.conditions rule.conclusion) in
@@ -220,26 +240,31 @@ module _ (shape : List Domain) (p : Point) where
   both-parts : (i : ℕ) (first second : List RuleLine) → LinesHold first i p → LinesHold second i p → LinesHold (first ++ second) i p
   both-parts i [] second one two = two
   both-parts i (l ∷ first) second one two =
-      All-cons (λ (m : RuleLine). m.rule ≡ i → LineHolds m.line p) l (first ++ second) (one 0 l (omega arith)) (both-parts i first second (λ j e under. one (suc j) e (omega arith)) two)
+      All-cons (λ (m : RuleLine). m.rule ≡ i → LineHolds m.line p) l (first ++ second) (one 0 l (omega arith))
+      (both-parts i first second (λ j e under. one (suc j) e (omega arith)) two)
 
   -- no line of a later rule has an earlier number
   later-lines : (i j : ℕ) (rules : List Rule) → j < i → LinesHold (rule_lines_from shape i rules) j p
   later-lines i j [] before = λ k d below. absurd (omega arith)
-  later-lines i j (rule ∷ rules) before = both-parts j (numbered i (rule_lines_of shape rule)) _ (numbered-hold i j _ (λ same. absurd (omega arith))) (later-lines (suc i) j rules (omega arith))
+  later-lines i j (rule ∷ rules) before = both-parts j (numbered i (rule_lines_of shape rule)) _ (numbered-hold i j _ (λ same. absurd (omega arith)))
+      (later-lines (suc i) j rules (omega arith))
 
   -- the lines with a rule's number hold exactly where the rule's lines do
-  pub lines-at : (i k : ℕ) (rules : List Rule) (rule : Rule) → slice_get rules k ≡ Some rule → LinesHold (rule_lines_from shape i rules) (i + k) p ↔ AllHold (rule_lines_of shape rule) p
+  pub lines-at : (i k : ℕ) (rules : List Rule) (rule : Rule) → slice_get rules k ≡ Some rule
+      → LinesHold (rule_lines_from shape i rules) (i + k) p ↔ AllHold (rule_lines_of shape rule) p
   lines-at i k [] rule there = absurd (cc)
   lines-at i zero (r ∷ rules) rule there =
       let same : r ≡ rule = cc in
       let number : i + 0 ≡ i = omega arith in
       subst (λ n. LinesHold (rule_lines_from shape i (r ∷ rules)) n p ↔ AllHold (rule_lines_of shape rule) p) (sym number) (
         λ holds. subst (λ (s : Rule). AllHold (rule_lines_of shape s) p) same (own-lines i _ (first-part i (numbered i (rule_lines_of shape r)) _ holds)),
-        λ holds. both-parts i (numbered i (rule_lines_of shape r)) _ (numbered-hold i i _ (λ _. subst (λ (s : Rule). AllHold (rule_lines_of shape s) p) (sym same) holds)) (later-lines (suc i) i rules (omega arith)),
+        λ holds. both-parts i (numbered i (rule_lines_of shape r)) _
+            (numbered-hold i i _ (λ _. subst (λ (s : Rule). AllHold (rule_lines_of shape s) p) (sym same) holds)) (later-lines (suc i) i rules (omega arith)),
       )
   lines-at i (suc k) (r ∷ rules) rule there =
       let number : suc i + k ≡ i + suc k = omega arith in
-      let rest = subst (λ n. LinesHold (rule_lines_from shape (suc i) rules) n p ↔ AllHold (rule_lines_of shape rule) p) number (lines-at (suc i) k rules rule there) in (
+      let rest = subst (λ n. LinesHold (rule_lines_from shape (suc i) rules) n p ↔ AllHold (rule_lines_of shape rule) p) number
+      (lines-at (suc i) k rules rule there) in (
         λ holds. rest.0 (second-part (i + suc k) (numbered i (rule_lines_of shape r)) _ holds),
         λ holds. both-parts (i + suc k) (numbered i (rule_lines_of shape r)) _ (numbered-hold i (i + suc k) _ (λ same. absurd (omega arith))) (rest.1 holds),
       )
@@ -248,7 +273,11 @@ module _ (shape : List Domain) (p : Point) where
 
 -- filtering makes no list longer
 filtered-few : (lines : List LineParts) → length lines ≤ 2 → length (filter (λ (l : LineParts). none_is_empty l.sets) lines) ≤ 2
-filtered-few lines few = omega (arith, length-filter (λ (l : LineParts). none_is_empty l.sets) lines, count_by-le-length (λ (l : LineParts). none_is_empty l.sets) lines)
+filtered-few lines few = omega (
+  arith,
+  length-filter (λ (l : LineParts). none_is_empty l.sets) lines,
+  count_by-le-length (λ (l : LineParts). none_is_empty l.sets) lines,
+)
 
 implied-few : (shape : List Domain) (sets : List ℕ) (conditions : List Test) (conclusion : Test) → length (implied_lines shape sets conditions conclusion) ≤ 2
 implied-few shape sets [] (Number e) = by e.compare
@@ -306,9 +335,11 @@ count-append test first second = sum_by-append (λ (l : RuleLine). cond (test l)
 
 count-other : (i j : ℕ) (lines : List LineParts) → i ≢ j → count_by (λ (l : RuleLine). l.rule == j) (numbered i lines) ≡ 0
 count-other i j [] apart = refl
-count-other i j (line ∷ lines) apart = sum_by-cons (λ (l : RuleLine). cond (l.rule == j) 1 0) (record { rule = i; line = line }) (numbered i lines) ∙ by (i == j) refl (count-other i j lines apart)
+count-other i j (line ∷ lines) apart = sum_by-cons (λ (l : RuleLine). cond (l.rule == j) 1 0) (record { rule = i; line = line }) (numbered i lines)
+    ∙ by (i == j) refl (count-other i j lines apart)
   where
-    by : (b : Bool) → (i == j) ≡ b → count_by (λ (l : RuleLine). l.rule == j) (numbered i lines) ≡ 0 → cond b 1 0 + count_by (λ (l : RuleLine). l.rule == j) (numbered i lines) ≡ 0
+    by : (b : Bool) → (i == j) ≡ b → count_by (λ (l : RuleLine). l.rule == j) (numbered i lines) ≡ 0
+        → cond b 1 0 + count_by (λ (l : RuleLine). l.rule == j) (numbered i lines) ≡ 0
     by true e none = absurd (apart ((Decides-eqb i j).0 e))
     by false e none = omega arith
 
@@ -316,7 +347,8 @@ count-later : (shape : List Domain) (i j : ℕ) (rules : List Rule) → j < i �
 count-later shape i j [] before = refl
 count-later shape i j (rule ∷ rules) before =
     count-append (λ (l : RuleLine). l.rule == j) (numbered i (rule_lines_of shape rule)) _
-    ∙ ap (λ n. n + count_by (λ (l : RuleLine). l.rule == j) (rule_lines_from shape (suc i) rules)) (count-other i j (rule_lines_of shape rule) (λ same. absurd (omega arith)))
+    ∙ ap (λ n. n + count_by (λ (l : RuleLine). l.rule == j) (rule_lines_from shape (suc i) rules))
+    (count-other i j (rule_lines_of shape rule) (λ same. absurd (omega arith)))
     ∙ ap (λ n. 0 + n) (count-later shape (suc i) j rules (omega arith))
 
 -- a rule has at most two lines
@@ -324,7 +356,9 @@ pub lines-few : (shape : List Domain) (i j : ℕ) (rules : List Rule) → count_
 lines-few shape i j [] = omega arith
 lines-few shape i j (rule ∷ rules) = by (i == j) refl (lines-few shape (suc i) j rules)
   where
-    whole : count_by (λ (l : RuleLine). l.rule == j) (rule_lines_from shape i (rule ∷ rules)) ≡ count_by (λ (l : RuleLine). l.rule == j) (numbered i (rule_lines_of shape rule)) + count_by (λ (l : RuleLine). l.rule == j) (rule_lines_from shape (suc i) rules)
+    whole : count_by (λ (l : RuleLine). l.rule == j) (rule_lines_from shape i (rule ∷ rules))
+        ≡ count_by (λ (l : RuleLine). l.rule == j) (numbered i (rule_lines_of shape rule)) + count_by (λ (l : RuleLine). l.rule == j)
+        (rule_lines_from shape (suc i) rules)
     whole = count-append (λ (l : RuleLine). l.rule == j) (numbered i (rule_lines_of shape rule)) _
 
     own : count_by (λ (l : RuleLine). l.rule == j) (numbered i (rule_lines_of shape rule)) ≤ 2
@@ -336,7 +370,8 @@ lines-few shape i j (rule ∷ rules) = by (i == j) refl (lines-few shape (suc i)
           own-few shape rule,
         )
 
-    by : (b : Bool) → (i == j) ≡ b → count_by (λ (l : RuleLine). l.rule == j) (rule_lines_from shape (suc i) rules) ≤ 2 → count_by (λ (l : RuleLine). l.rule == j) (rule_lines_from shape i (rule ∷ rules)) ≤ 2
+    by : (b : Bool) → (i == j) ≡ b → count_by (λ (l : RuleLine). l.rule == j) (rule_lines_from shape (suc i) rules) ≤ 2
+        → count_by (λ (l : RuleLine). l.rule == j) (rule_lines_from shape i (rule ∷ rules)) ≤ 2
     by true e rest =
         let same : i ≡ j = (Decides-eqb i j).0 e in
         let none = count-later shape (suc i) j rules (omega arith) in omega (arith, whole, own, none)

@@ -18,7 +18,8 @@ pub placed-lines : (i : ℕ) (lines : List LineParts) → map (λ (e : ℕ × Li
 placed-lines i [] = refl
 placed-lines i (line ∷ lines) = ap (λ (ls : List LineParts). line ∷ ls) (placed-lines (suc i) lines)
 
-placed-over : (shape : List Domain) (i : ℕ) (lines : List LineParts) → AreOver shape lines → All (λ (e : ℕ × LineParts). e.1.shape ≡ shape) (placed_from i lines)
+placed-over : (shape : List Domain) (i : ℕ) (lines : List LineParts) → AreOver shape lines
+    → All (λ (e : ℕ × LineParts). e.1.shape ≡ shape) (placed_from i lines)
 placed-over shape i [] over k d below = absurd (omega arith)
 placed-over shape i (line ∷ lines) over zero d below = over 0 line (omega arith)
 placed-over shape i (line ∷ lines) over (suc k) d below = placed-over shape (suc i) lines (λ n e within. over (suc n) e (omega arith)) k d (omega arith)
@@ -46,19 +47,29 @@ placed-edits shape lines over = record { over = placed-over shape 0 lines over; 
 pub edits-mean : (survey : SurveyParts) (edits : List (ℕ × LineParts)) → IsWellFormed survey → edits ≡ placed_from 0 (normal_lines_of survey) → (p : Point)
     → (HasCodesFrom 0 survey.fields p × AllHold (map (λ (e : ℕ × LineParts). e.1) edits) p) ↔ IsConsistent survey p
 edits-mean survey edits well are p =
-    let lines : map (λ (e : ℕ × LineParts). e.1) edits ≡ normal_lines_of survey = ap (λ (es : List (ℕ × LineParts)). map (λ (e : ℕ × LineParts). e.1) es) are ∙ placed-lines 0 (normal_lines_of survey) in (
+    let lines : map (λ (e : ℕ × LineParts). e.1) edits ≡ normal_lines_of survey = ap (λ (es : List (ℕ × LineParts)). map (λ (e : ℕ × LineParts). e.1) es) are
+    ∙ placed-lines 0 (normal_lines_of survey) in (
       λ held. record { codes = held.0; rules = (lines-mean survey p well held.0).0 (subst (λ (ls : List LineParts). AllHold ls p) lines held.1) },
-      λ (consistent : IsConsistent survey p). (consistent.codes, subst (λ (ls : List LineParts). AllHold ls p) (sym lines) ((lines-mean survey p well consistent.codes).1 consistent.rules)),
+      λ (consistent : IsConsistent survey p). (
+        consistent.codes,
+        subst (λ (ls : List LineParts). AllHold ls p) (sym lines)
+            ((lines-mean survey p well consistent.codes).1 consistent.rules),
+      ),
     )
 
 -- one more line
-pub placed-more : (i : ℕ) (lines : List LineParts) (line : LineParts) → placed_from i (lines ++ line ∷ []) ≡ placed_from i lines ++ (i + length lines, line) ∷ []
+pub placed-more : (i : ℕ) (lines : List LineParts) (line : LineParts) → placed_from i (lines ++ line ∷ []) ≡ placed_from i lines ++ (i + length lines, line)
+    ∷ []
 placed-more i [] line = ap (λ n. (n, line) ∷ []) (omega arith)
-placed-more i (l ∷ lines) line = ap (λ (es : List (ℕ × LineParts)). (i, l) ∷ es) (placed-more (suc i) lines line ∙ ap (λ n. placed_from (suc i) lines ++ (n, line) ∷ []) (omega arith))
+placed-more i (l ∷ lines) line = ap (λ (es : List (ℕ × LineParts)). (i, l) ∷ es) (placed-more (suc i) lines line
+    ∙ ap (λ n. placed_from (suc i) lines ++ (n, line) ∷ []) (omega arith))
 
-pub placed-turn : (number : ℕ) (yielded : List RuleLine) (one : RuleLine) (before after : List (ℕ × LineParts)) → number ≡ length yielded → before ≡ placed_from 0 (map (λ (l : RuleLine). l.line) yielded) → after ≡ before ++ (number, one.line) ∷ []
+pub placed-turn : (number : ℕ) (yielded : List RuleLine) (one : RuleLine) (before after : List (ℕ × LineParts)) → number ≡ length yielded → before
+    ≡ placed_from 0 (map (λ (l : RuleLine). l.line) yielded) → after ≡ before ++ (number, one.line) ∷ []
     → after ≡ placed_from 0 (map (λ (l : RuleLine). l.line) (yielded ++ one ∷ []))
 placed-turn number yielded one before after place is pushed =
     pushed ∙ ap (λ (es : List (ℕ × LineParts)). es ++ (number, one.line) ∷ []) is
-    ∙ ap (λ n. placed_from 0 (map (λ (l : RuleLine). l.line) yielded) ++ (n, one.line) ∷ []) (omega (arith, place, length-map {B = LineParts} yielded (λ (l : RuleLine). l.line)))
-    ∙ sym (placed-more 0 (map (λ (l : RuleLine). l.line) yielded) one.line) ∙ ap (λ (ls : List LineParts). placed_from 0 ls) (sym (map-append (λ (l : RuleLine). l.line) yielded (one ∷ [])))
+    ∙ ap (λ n. placed_from 0 (map (λ (l : RuleLine). l.line) yielded) ++ (n, one.line) ∷ [])
+    (omega (arith, place, length-map {B = LineParts} yielded (λ (l : RuleLine). l.line)))
+    ∙ sym (placed-more 0 (map (λ (l : RuleLine). l.line) yielded) one.line) ∙ ap (λ (ls : List LineParts). placed_from 0 ls)
+    (sym (map-append (λ (l : RuleLine). l.line) yielded (one ∷ [])))

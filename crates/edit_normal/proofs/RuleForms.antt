@@ -1,4 +1,5 @@
-use Rattle.std.proofs.Common.{◌≡◌, ◌↔◌, ℕ, zero, suc, ◌+◌, ◌<◌, ◌≤◌, ◌++◌, drop, add-one, append_assoc, append-nil, ◌==◌, if◌then◌else◌, Bool, true, false, inl, inr, Some, IsSomeAnd, slice_get, slice_index, List, [], ◌∷◌, All, get_or, length, map, pos, refl, sym, ap, ◌∙◌, subst, arith}
+use Rattle.std.proofs.Common.{◌≡◌, ◌↔◌, ℕ, zero, suc, ◌+◌, ◌<◌, ◌≤◌, ◌++◌, drop, add-one, append_assoc, append-nil, ◌==◌, if◌then◌else◌, Bool, true, false, inl}
+use Rattle.std.proofs.Common.{inr, Some, IsSomeAnd, slice_get, slice_index, List, [], ◌∷◌, All, get_or, length, map, pos, refl, sym, ap, ◌∙◌, subst, arith}
 use Rattle.std.specs.List.{count_by}
 use Rattle.std.proofs.Math.Seq.{drop-cons}
 use Rattle.std.specs.List.Sorted.{IsStrictlyIncreasing}
@@ -39,7 +40,8 @@ no-term n (t ∷ terms) later = by (t.field == n) refl (no-term n terms (λ k d 
 -- the terms after the first are on later fields
 later-terms : (t : Term) (terms : List Term) → IsStrictlyIncreasing (map (λ (u : Term). u.field) (t ∷ terms)) → All (λ (u : Term). t.field < u.field) terms
 later-terms t terms rises k d below =
-    let pairs = AllPairs-from_increasing (map (λ (u : Term). u.field) (t ∷ terms)) rises 0 (suc k) 0 (omega arith) (omega (arith, length-map terms (λ (u : Term). u.field))) in
+    let pairs = AllPairs-from_increasing (map (λ (u : Term). u.field) (t ∷ terms)) rises 0 (suc k) 0 (omega arith)
+    (omega (arith, length-map terms (λ (u : Term). u.field))) in
     omega (arith, pairs, get_or-map (λ (u : Term). u.field) terms k d 0 below)
 
 rest-rises : (n : ℕ) (ns : List ℕ) → IsStrictlyIncreasing (n ∷ ns) → IsStrictlyIncreasing ns
@@ -47,15 +49,18 @@ rest-rises n ns rises k below =
     let next : suc k + 1 ≡ suc (k + 1) = omega arith in subst (λ m. slice_index ns k < slice_index (n ∷ ns) m) next (rises (suc k) (omega arith))
 
 -- a field of each kind, by its own number
-numerical : (fields : List Field) (k : ℕ) → IsSomeAnd (slice_get fields k) (λ (f : Field). IsNumber f.kind) → has_field (number_fields (shape_of fields)) k ≡ true
+numerical : (fields : List Field) (k : ℕ) → IsSomeAnd (slice_get fields k) (λ (f : Field). IsNumber f.kind) → has_field (number_fields (shape_of fields)) k
+    ≡ true
 numerical fields k there =
     let same : 0 + k ≡ k = omega arith in subst (λ n. has_field (number_fields (shape_of fields)) n ≡ true) same (number-there 0 k fields there)
 
-categorical : (fields : List Field) (k set : ℕ) → IsSomeAnd (slice_get fields k) (λ (f : Field). IsSetOf f.kind set) → has_field (code_fields (shape_of fields)) k ≡ true
+categorical : (fields : List Field) (k set : ℕ) → IsSomeAnd (slice_get fields k) (λ (f : Field). IsSetOf f.kind set)
+    → has_field (code_fields (shape_of fields)) k ≡ true
 categorical fields k set there =
     let same : 0 + k ≡ k = omega arith in subst (λ n. has_field (code_fields (shape_of fields)) n ≡ true) same (codes-there 0 k set fields there)
 
-has-terms : (fields : List Field) (terms : List Term) → IsStrictlyIncreasing (map (λ (u : Term). u.field) terms) → All (IsTerm fields) terms → HasTerms (shape_of fields) terms
+has-terms : (fields : List Field) (terms : List Term) → IsStrictlyIncreasing (map (λ (u : Term). u.field) terms) → All (IsTerm fields) terms
+    → HasTerms (shape_of fields) terms
 has-terms fields [] rises are = tt
 has-terms fields (t ∷ terms) rises are = (
   numerical fields t.field (are 0 t (omega arith)).numerical,
@@ -76,7 +81,8 @@ module _ (fields : List Field) where
   pub all-codes : (tests : List Test) → All (IsTest fields) tests → All (FitsCodes (shape_of fields)) tests
   all-codes tests are k d below = fits-codes (get_or tests k d) (are k d below)
 
-  by-codes : (conditions : List Test) (conclusion : Test) → All (IsTest fields) conditions → All IsCodeTest conditions → IsTest fields conclusion → FitsRule (shape_of fields) conditions conclusion
+  by-codes : (conditions : List Test) (conclusion : Test) → All (IsTest fields) conditions → All IsCodeTest conditions → IsTest fields conclusion
+      → FitsRule (shape_of fields) conditions conclusion
   by-codes [] conclusion are codes is = fits-test conclusion is
   by-codes (Number e ∷ conditions) conclusion are codes is = absurd (codes 0 (Number e) (omega arith))
   by-codes (Codes field negated set ∷ conditions) conclusion are codes is = (
@@ -84,7 +90,8 @@ module _ (fields : List Field) where
     by-codes conditions conclusion (λ k d below. are (suc k) d (omega arith)) (λ k d below. codes (suc k) d (omega arith)) is,
   )
 
-  by-order : (t conclusion : Test) → IsTest fields t → IsOrderTest t → IsCodeTest conclusion → IsTest fields conclusion → FitsRule (shape_of fields) (t ∷ []) conclusion
+  by-order : (t conclusion : Test) → IsTest fields t → IsOrderTest t → IsCodeTest conclusion → IsTest fields conclusion
+      → FitsRule (shape_of fields) (t ∷ []) conclusion
   by-order (Number e) (Codes field negated set) is order code also = (has-terms fields e.terms is.0 is.1, order, categorical fields field set also)
   by-order (Number e) (Number c) is order code also = absurd code
   by-order (Codes field negated set) conclusion is order code also = absurd order
@@ -109,38 +116,51 @@ module _ (fields : List Field) where
       → LinesHold (rule_lines_from (shape_of fields) 0 rules) i p ↔ Holds rule p
   lines-same rules i rule p all there held =
       let number : 0 + i ≡ i = omega arith in
-      let at = subst (λ n. LinesHold (rule_lines_from (shape_of fields) 0 rules) n p ↔ AllHold (rule_lines_of (shape_of fields) rule) p) number (lines-at (shape_of fields) p 0 i rules rule there) in
+      let at = subst (λ n. LinesHold (rule_lines_from (shape_of fields) 0 rules) n p ↔ AllHold (rule_lines_of (shape_of fields) rule) p) number
+      (lines-at (shape_of fields) p 0 i rules rule there) in
       let truth = normal-Decides (shape_of fields) rule p (fits-rule rule (at-place rules i rule there all)) (HasCodes-shape 0 fields p held) in
       (λ holds. truth.1 (at.0 holds), λ holds. at.1 (truth.0 holds))
 
 -- ---- what the loop over the rules needs
 
 -- the code tests of a rule of the survey are on categorical fields
-pub rule-codes : (fields : List Field) (rules seen : List Rule) (shape : List Domain) (i : ℕ) (rule : Rule) → shape ≡ shape_of fields → seen ≡ rules → All (IsRule fields) rules → i < length seen → rule ≡ get_or seen i rule
+pub rule-codes : (fields : List Field) (rules seen : List Rule) (shape : List Domain) (i : ℕ) (rule : Rule) → shape ≡ shape_of fields → seen ≡ rules
+    → All (IsRule fields) rules → i < length seen → rule ≡ get_or seen i rule
     → All (FitsCodes shape) rule.conditions × FitsCodes shape rule.conclusion
 rule-codes fields rules seen shape i rule shape_is same all below here =
-    let is : IsRule fields rule = subst (λ (r : Rule). IsRule fields r) (sym here) ((subst (λ (rs : List Rule). All (IsRule fields) rs) (sym same) all) i rule below) in
-    subst (λ (s : List Domain). All (FitsCodes s) rule.conditions × FitsCodes s rule.conclusion) (sym shape_is) (all-codes fields rule.conditions is.conditions, fits-codes fields rule.conclusion is.conclusion)
+    let is : IsRule fields rule = subst (λ (r : Rule). IsRule fields r) (sym here) ((subst (λ (rs : List Rule). All (IsRule fields) rs) (sym same) all) i rule
+    below) in
+    subst (λ (s : List Domain). All (FitsCodes s) rule.conditions × FitsCodes s rule.conclusion) (sym shape_is)
+    (all-codes fields rule.conditions is.conditions, fits-codes fields rule.conclusion is.conclusion)
 
 -- one rule more
-pub rule-more : (shape own : List Domain) (rules seen : List Rule) (i : ℕ) (rule : Rule) (before after whole : List RuleLine) → own ≡ shape → seen ≡ rules → i < length seen → rule ≡ get_or seen i rule
-    → after ≡ joined_by before i (all_lines_of own rule) → before ++ rule_lines_from shape i (drop i rules) ≡ whole → after ++ rule_lines_from shape (i + 1) (drop (i + 1) rules) ≡ whole
+pub rule-more : (shape own : List Domain) (rules seen : List Rule) (i : ℕ) (rule : Rule) (before after whole : List RuleLine) → own ≡ shape → seen ≡ rules
+    → i < length seen → rule ≡ get_or seen i rule
+    → after ≡ joined_by before i (all_lines_of own rule) → before ++ rule_lines_from shape i (drop i rules) ≡ whole → after
+    ++ rule_lines_from shape (i + 1) (drop (i + 1) rules) ≡ whole
 rule-more shape own rules seen i rule before after whole own_is same below here pushed invariant =
-    let own_lines : after ≡ before ++ numbered i (rule_lines_of shape rule) = pushed ∙ ap (λ (s : List Domain). before ++ numbered i (rule_lines_of s rule)) own_is in
+    let own_lines : after ≡ before ++ numbered i (rule_lines_of shape rule) = pushed ∙ ap (λ (s : List Domain). before ++ numbered i (rule_lines_of s rule))
+    own_is in
     let within : i < length rules = omega (arith, ap length same) in
-    let split : drop i rules ≡ rule ∷ drop (suc i) rules = drop-cons rules i rule within ∙ ap (λ (r : Rule). r ∷ drop (suc i) rules) (ap (λ (rs : List Rule). get_or rs i rule) (sym same) ∙ sym here) in
+    let split : drop i rules ≡ rule ∷ drop (suc i) rules = drop-cons rules i rule within ∙ ap (λ (r : Rule). r ∷ drop (suc i) rules)
+    (ap (λ (rs : List Rule). get_or rs i rule) (sym same) ∙ sym here) in
     rw (add-one) (ap (λ (ls : List RuleLine). ls ++ rule_lines_from shape (suc i) (drop (suc i) rules)) own_lines
     ∙ append_assoc before (numbered i (rule_lines_of shape rule)) (rule_lines_from shape (suc i) (drop (suc i) rules))
     ∙ ap (λ (rs : List Rule). before ++ rule_lines_from shape i rs) (sym split) ∙ invariant)
 
 -- past the last rule
-pub rules-end : (shape : List Domain) (rules : List Rule) (i : ℕ) (lines whole : List RuleLine) → length rules ≤ i → lines ++ rule_lines_from shape i (drop i rules) ≡ whole → lines ≡ whole
-rules-end shape rules i lines whole past invariant = sym (append-nil lines) ∙ ap (λ (rs : List Rule). lines ++ rule_lines_from shape i rs) (sym (drop_all i rules past)) ∙ invariant
+pub rules-end : (shape : List Domain) (rules : List Rule) (i : ℕ) (lines whole : List RuleLine) → length rules ≤ i → lines
+    ++ rule_lines_from shape i (drop i rules) ≡ whole → lines ≡ whole
+rules-end shape rules i lines whole past invariant = sym (append-nil lines) ∙ ap (λ (rs : List Rule). lines ++ rule_lines_from shape i rs)
+    (sym (drop_all i rules past)) ∙ invariant
 
 -- what is said of the lines of all rules
-pub lines-answered : (fields : List Field) (rules : List Rule) (lines : List RuleLine) → lines ≡ rule_lines_from (shape_of fields) 0 rules → All (IsRule fields) rules
+pub lines-answered : (fields : List Field) (rules : List Rule) (lines : List RuleLine) → lines ≡ rule_lines_from (shape_of fields) 0 rules
+    → All (IsRule fields) rules
     → (i : ℕ) (rule : Rule) (p : Point) → slice_get rules i ≡ Some rule → HasCodesFrom 0 fields p → LinesHold lines i p ↔ Holds rule p
-lines-answered fields rules lines is all i rule p there held = subst (λ (ls : List RuleLine). LinesHold ls i p ↔ Holds rule p) (sym is) (lines-same fields rules i rule p all there held)
+lines-answered fields rules lines is all i rule p there held = subst (λ (ls : List RuleLine). LinesHold ls i p ↔ Holds rule p) (sym is)
+    (lines-same fields rules i rule p all there held)
 
-pub few-answered : (shape : List Domain) (rules : List Rule) (lines : List RuleLine) → lines ≡ rule_lines_from shape 0 rules → (i : ℕ) → count_by (λ (l : RuleLine). l.rule == i) lines ≤ 2
+pub few-answered : (shape : List Domain) (rules : List Rule) (lines : List RuleLine) → lines ≡ rule_lines_from shape 0 rules → (i : ℕ)
+    → count_by (λ (l : RuleLine). l.rule == i) lines ≤ 2
 few-answered shape rules lines is i = subst (λ (ls : List RuleLine). count_by (λ (l : RuleLine). l.rule == i) ls ≤ 2) (sym is) (lines-few shape 0 i rules)

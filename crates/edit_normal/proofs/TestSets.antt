@@ -1,4 +1,5 @@
-use Rattle.std.proofs.Common.{◌≡◌, ℕ, zero, suc, ◌+◌, ◌-◌, ◌<◌, ◌^◌, ◌%◌, ◌==◌, ◌&&◌, ◌||◌, not, nat_eq, if◌then◌else◌, Bool, true, false, List, [], ◌∷◌, length, map, bit_and, bit_xor, slice_index_or, slice_set, refl, sym, ap, ◌∙◌, arith}
+use Rattle.std.proofs.Common.{◌≡◌, ℕ, zero, suc, ◌+◌, ◌-◌, ◌<◌, ◌^◌, ◌%◌, ◌==◌, ◌&&◌, ◌||◌, not, nat_eq, if◌then◌else◌, Bool, true, false, List, [], ◌∷◌}
+use Rattle.std.proofs.Common.{length, map, bit_and, bit_xor, slice_index_or, slice_set, refl, sym, ap, ◌∙◌, arith}
 use Rattle.std.specs.Int.{bit_at}
 use Rattle.std.proofs.lemmas.Bool.Decides.{Decides-eqb}
 use Rattle.std.proofs.lemmas.List.{length-map, length-set}
@@ -20,18 +21,22 @@ has-other whole codes code all = by (has_code codes code) refl
     by : (b : Bool) → has_code codes code ≡ b → has_code (bit_xor whole codes) code ≡ not b
     by true e =
         let one : bit_at codes code ≡ 1 = (Decides-eqb (bit_at codes code) 1).0 e in
-        let bits : bit_at (bit_xor whole codes) code ≡ 0 = bit_at_xor whole codes code ∙ ap (λ n. (n + bit_at codes code) % 2) all ∙ ap (λ n. (1 + n) % 2) one in
+        let bits : bit_at (bit_xor whole codes) code ≡ 0 = bit_at_xor whole codes code ∙ ap (λ n. (n + bit_at codes code) % 2) all
+        ∙ ap (λ n. (1 + n) % 2) one in
         ap (λ n. nat_eq n 1) bits
     by false e =
-        let none : bit_at codes code ≡ 0 = zero_bit (bit_at codes code) (bit_at-lt codes code) (λ h. absurd (cc (sym e ∙ (Decides-eqb (bit_at codes code) 1).1 h))) in
-        let bits : bit_at (bit_xor whole codes) code ≡ 1 = bit_at_xor whole codes code ∙ ap (λ n. (n + bit_at codes code) % 2) all ∙ ap (λ n. (1 + n) % 2) none in
+        let none : bit_at codes code ≡ 0 = zero_bit (bit_at codes code) (bit_at-lt codes code)
+        (λ h. absurd (cc (sym e ∙ (Decides-eqb (bit_at codes code) 1).1 h))) in
+        let bits : bit_at (bit_xor whole codes) code ≡ 1 = bit_at_xor whole codes code ∙ ap (λ n. (n + bit_at codes code) % 2) all
+        ∙ ap (λ n. (1 + n) % 2) none in
         ap (λ n. nat_eq n 1) bits
       where
         zero_bit : (n : ℕ) → n < 2 → (n ≡ 1 → ⊥) → n ≡ 0
         zero_bit n h other = omega arith
 
 -- the codes that meet a test
-test_set-has : (whole codes code : ℕ) (negated : Bool) → bit_at whole code ≡ 1 → has_code (test_set whole negated codes) code ≡ (if negated then not (has_code codes code) else has_code codes code)
+test_set-has : (whole codes code : ℕ) (negated : Bool) → bit_at whole code ≡ 1 → has_code (test_set whole negated codes) code
+    ≡ (if negated then not (has_code codes code) else has_code codes code)
 test_set-has whole codes code true all = has-other whole codes code all
 test_set-has whole codes code false all = refl
 
@@ -41,18 +46,21 @@ pub code-at : (p : Point) (fields : List ℕ) (f : ℕ) → has_field fields f �
 code-at p [] f there = absurd (cc)
 code-at p (i ∷ fields) f there = by (i == f) refl (code-at p fields f) there
   where
-    by : (b : Bool) → (i == f) ≡ b → (has_field fields f ≡ true → slice_index_or (map p.code fields) (place_in fields f) 0 ≡ p.code f) → (b || has_field fields f) ≡ true
+    by : (b : Bool) → (i == f) ≡ b → (has_field fields f ≡ true → slice_index_or (map p.code fields) (place_in fields f) 0 ≡ p.code f)
+        → (b || has_field fields f) ≡ true
         → slice_index_or (p.code i ∷ map p.code fields) (if b then 0 else suc (place_in fields f)) 0 ≡ p.code f
     by true e rest h = ap p.code ((Decides-eqb i f).0 e)
     by false e rest h = rest h
 
 -- a code of the field's domain is in the field's whole set
-pub whole-has : (i : ℕ) (shape : List Domain) (p : Point) (f : ℕ) → HasCodes i shape p → has_field (codes_from i shape) f ≡ true → bit_at (slice_index_or (whole_sets shape) (place_in (codes_from i shape) f) 0) (p.code f) ≡ 1
+pub whole-has : (i : ℕ) (shape : List Domain) (p : Point) (f : ℕ) → HasCodes i shape p → has_field (codes_from i shape) f ≡ true
+    → bit_at (slice_index_or (whole_sets shape) (place_in (codes_from i shape) f) 0) (p.code f) ≡ 1
 whole-has i [] p f held there = absurd (cc)
 whole-has i (Numerical ∷ shape) p f held there = whole-has (suc i) shape p f held there
 whole-has i (Categorical k ∷ shape) p f held there = by (i == f) refl (whole-has (suc i) shape p f held.1) there
   where
-    by : (b : Bool) → (i == f) ≡ b → (has_field (codes_from (suc i) shape) f ≡ true → bit_at (slice_index_or (whole_sets shape) (place_in (codes_from (suc i) shape) f) 0) (p.code f) ≡ 1)
+    by : (b : Bool) → (i == f) ≡ b → (has_field (codes_from (suc i) shape) f ≡ true → bit_at
+        (slice_index_or (whole_sets shape) (place_in (codes_from (suc i) shape) f) 0) (p.code f) ≡ 1)
         → (b || has_field (codes_from (suc i) shape) f) ≡ true
         → bit_at (slice_index_or ((2 ^ k - 1) ∷ whole_sets shape) (if b then 0 else suc (place_in (codes_from (suc i) shape) f)) 0) (p.code f) ≡ 1
     by true e rest h = ap (λ n. bit_at (2 ^ k - 1) (p.code n)) (sym ((Decides-eqb i f).0 e)) ∙ bit_at_ones k (p.code i) held.0
@@ -67,10 +75,12 @@ whole-inside i (Categorical k ∷ shape) p held = rw (ap (λ n. nat_eq n 1) (bit
 -- ---- sets that are narrowed at one place
 
 inside-set : (sets codes : List ℕ) (place t : ℕ) → place < length sets → place < length codes
-    → are_codes_in (slice_set sets place (bit_and (slice_index_or sets place 0) t)) codes ≡ (are_codes_in sets codes && has_code t (slice_index_or codes place 0))
+    → are_codes_in (slice_set sets place (bit_and (slice_index_or sets place 0) t)) codes
+    ≡ (are_codes_in sets codes && has_code t (slice_index_or codes place 0))
 inside-set [] codes place t below within = absurd (omega arith)
 inside-set (s ∷ sets) [] place t below within = absurd (omega arith)
-inside-set (s ∷ sets) (code ∷ codes) zero t below within = ap (λ b. b && are_codes_in sets codes) (has-and s t code) ∙ moved (has_code s code) (has_code t code) (are_codes_in sets codes)
+inside-set (s ∷ sets) (code ∷ codes) zero t below within = ap (λ b. b && are_codes_in sets codes) (has-and s t code)
+    ∙ moved (has_code s code) (has_code t code) (are_codes_in sets codes)
   where
     moved : (a b c : Bool) → ((a && b) && c) ≡ ((a && c) && b)
     moved true true true = refl
@@ -78,15 +88,18 @@ inside-set (s ∷ sets) (code ∷ codes) zero t below within = ap (λ b. b && ar
     moved true false true = refl
     moved true false false = refl
     moved false b c = refl
-inside-set (s ∷ sets) (code ∷ codes) (suc place) t below within = ap (λ b. has_code s code && b) (inside-set sets codes place t (omega arith) (omega arith)) ∙ grouped (has_code s code) (are_codes_in sets codes) _
+inside-set (s ∷ sets) (code ∷ codes) (suc place) t below within = ap (λ b. has_code s code && b) (inside-set sets codes place t (omega arith) (omega arith))
+    ∙ grouped (has_code s code) (are_codes_in sets codes) _
   where
     grouped : (a b c : Bool) → (a && (b && c)) ≡ ((a && b) && c)
     grouped true b c = refl
     grouped false b c = refl
 
 -- the narrowed sets have the point's codes exactly where the sets have them and the test is true
-pub narrowed-inside : (shape : List Domain) (sets : List ℕ) (field : ℕ) (negated : Bool) (codes : ℕ) (p : Point) → length sets ≡ length (code_fields shape) → has_field (code_fields shape) field ≡ true → HasCodes 0 shape p
-    → are_codes_in (narrowed shape sets field negated codes) (codes_at shape p) ≡ (are_codes_in sets (codes_at shape p) && test_holds (Codes field negated codes) p)
+pub narrowed-inside : (shape : List Domain) (sets : List ℕ) (field : ℕ) (negated : Bool) (codes : ℕ) (p : Point) → length sets ≡ length (code_fields shape)
+    → has_field (code_fields shape) field ≡ true → HasCodes 0 shape p
+    → are_codes_in (narrowed shape sets field negated codes) (codes_at shape p)
+    ≡ (are_codes_in sets (codes_at shape p) && test_holds (Codes field negated codes) p)
 narrowed-inside shape sets field negated codes p same there held =
     let place = place_in (code_fields shape) field in
     let below : place < length (code_fields shape) = place-within (code_fields shape) field there in
@@ -96,5 +109,6 @@ narrowed-inside shape sets field negated codes p same there held =
     ∙ ap (λ c. are_codes_in sets (codes_at shape p) && has_code (test_set (slice_index_or (whole_sets shape) place 0) negated codes) c) at
     ∙ ap (λ b. are_codes_in sets (codes_at shape p) && b) (test_set-has (slice_index_or (whole_sets shape) place 0) codes (p.code field) negated all)
 
-pub narrowed-length : (shape : List Domain) (sets : List ℕ) (field : ℕ) (negated : Bool) (codes : ℕ) → length (narrowed shape sets field negated codes) ≡ length sets
+pub narrowed-length : (shape : List Domain) (sets : List ℕ) (field : ℕ) (negated : Bool) (codes : ℕ) → length (narrowed shape sets field negated codes)
+    ≡ length sets
 narrowed-length shape sets field negated codes = length-set sets _ _

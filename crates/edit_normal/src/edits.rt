@@ -1,3 +1,4 @@
+//! The edits of a survey, from its rules by way of their normal lines.
 ghost use Rattle.std.specs.Prelude.{◌≡◌, ◌≤◌, IfOk, length, map};
 ghost use Rattle.edit_line.specs.EditSets.{SayTheRules};
 ghost use Rattle.edit_normal.specs.RuleEdits.{placed_from, rule_edits};
@@ -21,7 +22,8 @@ pub fn rule_edits(alloc: Global, survey: &Survey) -> Result<Edits, OutOfMemory>
     Ok(edits)
 }
 
-// The lines, numbered by their places.
+// The lines without the numbers of their rules, each numbered by its place, from 0. They are at most 1000:
+// two for each of 500 rules.
 fn placed(alloc: Global, rule_lines: Vec<RuleLine>) -> Result<Vec<(u32, Line)>, OutOfMemory>
     requires { length rule_lines.items ≤ 1000 }
     ensures { IfOk result (λ lines. lines.items ≡ placed_from 0 (map (λ l. l.line) rule_lines.items)) }

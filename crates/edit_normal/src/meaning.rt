@@ -1,3 +1,5 @@
+//! The law of the normal form, as a call that does nothing. No code calls it: it states what the
+//! definition means.
 ghost use Rattle.edit_model.specs.Parts.{SurveyParts};
 ghost use Rattle.edit_model.specs.Surveys.{IsWellFormed};
 ghost use Rattle.edit_normal.specs.RuleLines.{SayAllRules, normal_lines_of};

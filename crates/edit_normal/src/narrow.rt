@@ -1,3 +1,6 @@
+//! Sets of codes narrowed by a test on codes, as each condition of a rule narrows where its lines ask
+//! something. Below, `fields` is the survey's shape, and `sets` has a set for each categorical field. In
+//! contracts, `AreWithin` says that no set has a code that its field has not.
 ghost use Rattle.std.specs.Prelude.{◌≡◌, not, true};
 ghost use Rattle.edit_line.specs.inner.SetBounds.{AreWithin};
 ghost use Rattle.edit_line.specs.Shapes.{code_fields, has_field, whole_sets};
@@ -5,8 +8,8 @@ ghost use Rattle.edit_normal.specs.NormalForm.{narrowed};
 
 use crate::survey_shape::SurveyShape;
 
-/// Narrows the sets at the field to the codes that meet the test: those of the set, or the field's others
-/// where the test is negated.
+/// Narrows the sets at the field, which is categorical, to the codes that meet the test: those of `codes`,
+/// as bits, or the field's others where the test is negated.
 pub(crate) fn narrow(
     fields: &SurveyShape,
     sets: &mut Vec<u64>,
@@ -29,7 +32,8 @@ pub(crate) fn narrow(
     sets[place] &= wanted;
 }
 
-/// Narrows the sets at the field to the codes that do not meet the test.
+/// Narrows the sets at the field, which is categorical, to the codes that do not meet the test: where a
+/// conclusion fails.
 pub(crate) fn narrow_where_false(
     fields: &SurveyShape,
     sets: &mut Vec<u64>,

@@ -1,3 +1,4 @@
+//! The normal form of all rules of a survey, as lines.
 ghost use Rattle.std.specs.Prelude.{◌≡◌, ◌≤◌, ◌==◌, ◌*◌, ℕ, IfOk, count_by, length, map};
 ghost use Rattle.edit_line.specs.Lines.{AreOver};
 ghost use Rattle.edit_line.specs.Shapes.{shape_of};

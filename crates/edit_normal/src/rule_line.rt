@@ -1,3 +1,4 @@
+//! A line that still knows which rule it came from.
 use edit_line::Line;
 
 /// A line of the normal form of a rule, with the rule's number, from 0.

@@ -1,4 +1,10 @@
-//! The lines of one rule.
+//! The normal lines of one rule. Conditions on codes narrow the sets of a line, and what is left to say of
+//! numbers is its linear part. Below, `fields` is the survey's shape, `rule` or `number` the rule's
+//! number, and `lines` the list that grows.
+//!
+//! In contracts, `joined_by` has the lines before, and behind them those of the others in which no set is
+//! empty. `FitsCodes` says that a test on codes is on a categorical field, and `AreWithin` that no set has
+//! a code that its field has not.
 ghost use Rattle.std.specs.Prelude.{◌≡◌, [], ◌∷◌, All, OnOk};
 ghost use Rattle.edit_line.specs.inner.SetBounds.{AreWithin};
 ghost use Rattle.edit_line.specs.Negations.{never};
@@ -17,7 +23,8 @@ use edit_model::{Compare, Linear, Rule, Test};
 use foundation::OutOfMemory;
 use std::alloc::Global;
 
-/// Appends the lines of the rule of this number.
+/// Appends the lines of a rule, each with the rule's number. A line with an empty set of codes is left out,
+/// here and below: it asks nothing.
 pub(crate) fn push_rule(
     alloc: Global,
     fields: &SurveyShape,
@@ -36,7 +43,7 @@ pub(crate) fn push_rule(
     }
 }
 
-// Appends the lines of a rule without conditions.
+// Appends the lines of a rule without conditions, which has this conclusion.
 fn push_always(
     alloc: Global,
     fields: &SurveyShape,
@@ -56,7 +63,8 @@ fn push_always(
     }
 }
 
-// Appends the lines that say that the sum compares so, whatever the codes are.
+// Appends the lines that say that the test's sum compares with 0 as the test says, whatever the codes are.
+// An equation becomes one line here, an equality: only a line for all codes may be one.
 fn push_compare_always(
     alloc: Global,
     fields: &SurveyShape,
@@ -75,7 +83,8 @@ fn push_compare_always(
     }
 }
 
-// Appends the lines of a rule with conditions.
+// Appends the lines of a rule with conditions. Each condition on codes narrows the sets; one that compares
+// a sum is the only condition of its rule, and its lines are the rule's.
 fn push_implied(
     alloc: Global,
     fields: &SurveyShape,
@@ -104,7 +113,8 @@ fn push_implied(
     push_conclusion(alloc, fields, sets, &rule.conclusion, number, lines)
 }
 
-// Appends the lines of a conclusion, where the codes are in the sets.
+// Appends the lines of a conclusion, which are asked where the codes are in the sets. If it is a test on
+// codes, no codes in the sets may fail it.
 fn push_conclusion(
     alloc: Global,
     fields: &SurveyShape,
@@ -130,7 +140,9 @@ fn push_conclusion(
     }
 }
 
-// Appends the lines of a comparison as the last condition, where the codes are in the sets.
+// Appends the lines of a rule whose last condition compares a sum. Where the codes are in the sets and fail
+// the conclusion, the sum must not compare so. No rule of a survey has a comparison as its conclusion here,
+// so none is appended for it.
 fn push_condition(
     alloc: Global,
     fields: &SurveyShape,
@@ -158,7 +170,8 @@ fn push_condition(
     }
 }
 
-// Appends the lines that say that the sum compares so.
+// Appends the lines that say that the test's sum compares with 0 as the test says, where the codes are in
+// the sets. An equation becomes two lines: at least 0, and at most 0.
 fn push_compare(
     alloc: Global,
     fields: &SurveyShape,
@@ -182,7 +195,8 @@ fn push_compare(
     }
 }
 
-// Appends the line that says that the sum does not compare so.
+// Appends the line that says that the test's sum does not compare with 0 as the test says, where the codes
+// are in the sets. No condition is an equation, so none is appended for one.
 fn push_contrary(
     alloc: Global,
     fields: &SurveyShape,
@@ -203,8 +217,8 @@ fn push_contrary(
     }
 }
 
-// Appends the line that says that the sum is on this side of 0, unless a set is empty. That it is 0 is said
-// of all codes.
+// Appends the line that says that the test's sum is on this side of 0 where the codes are in the sets.
+// Where a set is empty it appends none. The side `Zero` is asked of whole sets alone.
 fn push_side(
     alloc: Global,
     fields: &SurveyShape,
@@ -225,7 +239,8 @@ fn push_side(
     Ok(())
 }
 
-// Appends the line -1 >= 0, unless a set is empty.
+// Appends the line that the codes are never in all these sets: where they are, it asks that -1 is at least
+// 0. Where a set is empty it appends none.
 fn push_never(
     alloc: Global,
     fields: &SurveyShape,
@@ -244,7 +259,8 @@ fn push_never(
     Ok(())
 }
 
-// Whether no set is empty.
+// Whether no set is empty. Where one is, no codes are in all the sets, and a line with them would ask
+// nothing.
 fn have_codes(sets: &[u64]) -> bool
     ensures { result ≡ none_is_empty sets.now }
 {

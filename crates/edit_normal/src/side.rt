@@ -1,4 +1,5 @@
-//! A line that says on which side of 0 the sum of a linear test is, or that it is 0.
+//! The line that says on which side of 0 the sum of a linear test is, or that it is 0. Below, `fields` is
+//! the survey's shape, and `linear` the test.
 ghost use Rattle.std.specs.Prelude.{◌≡◌, All, IfOk, map};
 ghost use Rattle.fraction128.specs.Range.{InRange};
 ghost use Rattle.edit_line.specs.Sets.{AreSets};
@@ -23,14 +24,15 @@ pub(crate) enum Side {
 }
 
 impl Side {
-    /// Whether the line is that of the negative of the sum.
+    /// Whether the line has the negative of the test's sum: a line only says that something is at least 0,
+    /// above 0, or 0.
     fn is_negative(self) -> bool
         ensures { result ≡ is_negative self }
     {
         matches!(self, Side::AtMost | Side::Below)
     }
 
-    /// What the line asks of that sum.
+    /// What the line asks of the test's sum, or of its negative.
     fn relation(self) -> Relation
         ensures { result ≡ relation_of self }
     {
@@ -42,8 +44,8 @@ impl Side {
     }
 }
 
-/// The line that says that the test's sum is on this side of 0 where the codes are in the sets; that it is
-/// 0 is said of all codes.
+/// The line that says that the test's sum is on this side of 0 where the codes are in the sets. Its numbers
+/// are divided by their greatest common divisor. For the side `Zero` the sets are whole.
 pub(crate) fn side_line(
     alloc: Global,
     fields: &SurveyShape,
@@ -62,7 +64,7 @@ pub(crate) fn side_line(
     Ok(Line::divided(fields.shape(), sets, factors, constant, side.relation()))
 }
 
-// The factor of each field in the test, or its negative.
+// The factor of each of the fields in the test, or its negative where `negative` is true.
 fn factors_of(
     alloc: Global,
     fields: &[u32],
@@ -79,7 +81,8 @@ fn factors_of(
     Ok(factors)
 }
 
-// The factor of the field in the test, or its negative; 0 where it has no term.
+// The factor of the field in the test, or its negative where `negative` is true; 0 where the field has no
+// term.
 fn factor_at(linear: &Linear, field: u32, negative: bool) -> i128
     ensures factor { result ≡ signed negative (term_factor linear.now.terms field) }
     ensures in_range { InRange result }
@@ -92,7 +95,7 @@ fn factor_at(linear: &Linear, field: u32, negative: bool) -> i128
     0
 }
 
-// The number, or its negative.
+// The number, or its negative where `negative` is true, in 128 bits, where it always fits.
 fn signed(number: i64, negative: bool) -> i128
     ensures value { result ≡ signed negative number }
     ensures in_range { InRange result }

@@ -1,3 +1,4 @@
+//! What making lines asks of a survey again and again, looked up once.
 ghost use Rattle.std.specs.Prelude.{◌≡◌, ◌<◌, IfOk};
 ghost use Rattle.edit_line.specs.Domains.{domains};
 ghost use Rattle.edit_line.specs.Shapes.{code_fields, number_fields, place_in, shape_of, whole_sets};
@@ -69,7 +70,7 @@ impl SurveyShape {
         self.wholes.as_slice()
     }
 
-    /// The place of a field among the categorical ones.
+    /// The place of a field among the categorical ones, from 0, and their number where it is none of them.
     pub(crate) fn place(&self, field: u32) -> usize
         ensures { result ≡ place_in (code_fields self.now) field }
     {

@@ -1,4 +1,5 @@
-use Rattle.std.proofs.Common.{◌≡◌, ◌||◌, not, Bool, true, false, List, [], ◌∷◌, ◌⊎◌, inl, inr, ℤ, pos, negsuc, zero, suc, ◌<ℤ◌, ◌+ℤ◌, ◌-ℤ◌, ◌*ℤ◌, refl, sym, ap, ◌∙◌, subst, arith}
+use Rattle.std.proofs.Common.{◌≡◌, ◌||◌, not, Bool, true, false, List, [], ◌∷◌, ◌⊎◌, inl, inr, ℤ, pos, negsuc, zero, suc, ◌<ℤ◌, ◌+ℤ◌, ◌-ℤ◌, ◌*ℤ◌}
+use Rattle.std.proofs.Common.{refl, sym, ap, ◌∙◌, subst, arith}
 use lib.IntN.{neg_ℤ}
 use Rattle.std.proofs.lemmas.Int.{ints}
 use Rattle.fraction128.proofs.Signs.{above-*}
@@ -20,7 +21,8 @@ by_sign (negsuc n) = inr (inr (omega (arith, ints)))
 pub above_neg : (z : ℤ) → z <ℤ pos 0 → pos 0 <ℤ neg_ℤ z
 above_neg z h = omega (arith, ints)
 
--- a bound asks that slope * value + rest is enough, where the value is v / d: one with a positive slope bounds it from below, one with a negative slope from above
+-- a bound asks that slope * value + rest is enough, where the value is v / d: one with a positive slope bounds it from below, one
+-- with a negative slope from above
 module _ {X : Type 0} (slope rest : X → ℤ) (strict : X → Bool) where
   abbrev pub Meets : X → ℤ → ℤ → Type 0
   Meets x v d = IsEnough (bound_relation (strict x)) (slope x *ℤ v +ℤ rest x *ℤ d)
@@ -46,14 +48,17 @@ module _ {X : Type 0} (slope rest : X → ℤ) (strict : X → Bool) where
   module _ (x y : X) (u w : ℤ) (u_above : pos 0 <ℤ u) (w_above : pos 0 <ℤ w) (level : u *ℤ slope y ≡ w *ℤ slope x) where
     further : pos 0 <ℤ (u *ℤ rest y -ℤ w *ℤ rest x) → Implies x y
     further more v d d_above meets =
-        IsEnough_cancel (bound_relation (strict y)) _ u u_above (subst (λ (z : ℤ). IsEnough (bound_relation (strict y)) z) (sym (scaled u w (slope x) (slope y) (rest x) (rest y) v d level))
-        (IsEnough-more (bound_relation (strict x)) (bound_relation (strict y)) _ _ (bound_apart (strict y)) (IsEnough-times (bound_relation (strict x)) _ w w_above meets) (above-* _ d more d_above)))
+        IsEnough_cancel (bound_relation (strict y)) _ u u_above
+        (subst (λ (z : ℤ). IsEnough (bound_relation (strict y)) z) (sym (scaled u w (slope x) (slope y) (rest x) (rest y) v d level))
+        (IsEnough-more (bound_relation (strict x)) (bound_relation (strict y)) _ _ (bound_apart (strict y))
+        (IsEnough-times (bound_relation (strict x)) _ w w_above meets) (above-* _ d more d_above)))
 
     level_with : u *ℤ rest y -ℤ w *ℤ rest x ≡ pos 0 → (strict x || not (strict y)) ≡ true → Implies x y
     level_with none either v d d_above meets =
         IsEnough_cancel (bound_relation (strict y)) _ u u_above (subst (λ (z : ℤ). IsEnough (bound_relation (strict y)) z)
         (sym (scaled u w (slope x) (slope y) (rest x) (rest y) v d level ∙ ap (λ (k : ℤ). (slope x *ℤ v +ℤ rest x *ℤ d) *ℤ w +ℤ k *ℤ d) none ∙ no_more _ d))
-        (IsEnough-weaker (bound_relation (strict x)) (bound_relation (strict y)) _ (bound_implies (strict x) (strict y) ∙ either) (IsEnough-times (bound_relation (strict x)) _ w w_above meets)))
+        (IsEnough-weaker (bound_relation (strict x)) (bound_relation (strict y)) _ (bound_implies (strict x) (strict y) ∙ either)
+        (IsEnough-times (bound_relation (strict x)) _ w w_above meets)))
 
   turned_above : (a b : ℤ) → (a -ℤ b) <ℤ pos 0 → pos 0 <ℤ (b -ℤ a)
   turned_above a b h = omega (arith, ints)
@@ -74,7 +79,8 @@ module _ {X : Type 0} (slope rest : X → ℤ) (strict : X → Bool) where
       by : (s t : Bool) → strict x ≡ s → strict y ≡ t → u *ℤ rest y -ℤ w *ℤ rest x ≡ pos 0 → Implies x y ⊎ Implies y x
       by true t first second none = inl (level_with x y u w u_above w_above level none (ap (λ b. b || not (strict y)) first))
       by false false first second none = inl (level_with x y u w u_above w_above level none (ap (λ b. b || not (strict y)) first ∙ ap not second))
-      by false true first second none = inr (level_with y x w u w_above u_above (sym level) (turned_none (u *ℤ rest y) (w *ℤ rest x) none) (ap (λ b. b || not (strict x)) second))
+      by false true first second none =
+          inr (level_with y x w u w_above u_above (sym level) (turned_none (u *ℤ rest y) (w *ℤ rest x) none) (ap (λ b. b || not (strict x)) second))
 
   -- two lower bounds
   pub lower_implies : (x y : X) → pos 0 <ℤ slope x → pos 0 <ℤ slope y → Implies x y ⊎ Implies y x
@@ -82,7 +88,8 @@ module _ {X : Type 0} (slope rest : X → ℤ) (strict : X → Bool) where
 
   -- and two upper ones
   pub upper_implies : (x y : X) → slope x <ℤ pos 0 → slope y <ℤ pos 0 → Implies x y ⊎ Implies y x
-  upper_implies x y x_below y_below = one_implies x y (neg_ℤ (slope x)) (neg_ℤ (slope y)) (above_neg (slope x) x_below) (above_neg (slope y) y_below) (negatives (slope x) (slope y))
+  upper_implies x y x_below y_below =
+      one_implies x y (neg_ℤ (slope x)) (neg_ℤ (slope y)) (above_neg (slope x) x_below) (above_neg (slope y) y_below) (negatives (slope x) (slope y))
     where
       negatives : (a b : ℤ) → neg_ℤ a *ℤ b ≡ neg_ℤ b *ℤ a
       negatives a b = rw (parts a, parts b) (simp ring (same_dif _ _ _ _ (omega arith)))
@@ -98,7 +105,8 @@ module _ {X : Type 0} (slope rest : X → ℤ) (strict : X → Bool) where
     pub tightest : (x : X) → IsIn x bounds → Implies best x
 
   -- the tightest of some bounds
-  pub tightest : (x : X) (bounds : List X) → ((y z : X) → IsIn y (x ∷ bounds) → IsIn z (x ∷ bounds) → Implies y z ⊎ Implies z y) → (best : X) × IsTightest (x ∷ bounds) best
+  pub tightest : (x : X) (bounds : List X) → ((y z : X) → IsIn y (x ∷ bounds) → IsIn z (x ∷ bounds) → Implies y z ⊎ Implies z y)
+      → (best : X) × IsTightest (x ∷ bounds) best
   tightest x [] either = (x, record { there = inl refl; tightest = one })
     where
       one : (y : X) → IsIn y (x ∷ []) → Implies x y
@@ -165,18 +173,32 @@ module _ {X : Type 0} (slope rest : X → ℤ) (strict : X → Bool) where
   -- a value within all lower and all upper bounds, where each pair leaves one
   pub between : (lowers uppers : List X) → ((x : X) → IsIn x lowers → pos 0 <ℤ slope x) → ((y : X) → IsIn y uppers → slope y <ℤ pos 0)
       → ((x y : X) → IsIn x lowers → IsIn y uppers → LeavesValue x y) → (v : ℤ) × (d : ℤ) × IsWithin lowers v d × IsWithin uppers v d
-  between [] [] rising falling leaves =
-      (pos 0, pos 1, record { above = omega (arith, ints); within = λ x none. absurd none }, record { above = omega (arith, ints); within = λ x none. absurd none })
+  between [] [] rising falling leaves = (
+    pos 0,
+    pos 1,
+    record { above = omega (arith, ints); within = λ x none. absurd none },
+    record { above = omega (arith, ints); within = λ x none. absurd none },
+  )
   between (x ∷ lowers) [] rising falling leaves =
       let (best, is) = tightest x lowers (λ y z y_in z_in. lower_implies y z (rising y y_in) (rising z z_in)) in
       let above : pos 0 <ℤ slope best = rising best is.there in
-      let meets : Meets best (pos 1 -ℤ rest best) (slope best) = subst (λ (z : ℤ). IsEnough (bound_relation (strict best)) z) (past_lower (slope best) (rest best)) (IsEnough-above (bound_relation (strict best)) (slope best) (bound_apart (strict best)) above) in
-      (pos 1 -ℤ rest best, slope best, record { above = above; within = all_within (x ∷ lowers) best _ _ is above meets }, record { above = above; within = λ x none. absurd none })
+      let meets : Meets best (pos 1 -ℤ rest best) (slope best) = subst (λ (z : ℤ). IsEnough (bound_relation (strict best)) z)
+      (past_lower (slope best) (rest best)) (IsEnough-above (bound_relation (strict best)) (slope best) (bound_apart (strict best)) above) in (
+        pos 1 -ℤ rest best,
+        slope best,
+        record { above = above; within = all_within (x ∷ lowers) best _ _ is above meets },
+        record { above = above; within = λ x none. absurd none },
+      )
   between [] (y ∷ uppers) rising falling leaves =
       let (best, is) = tightest y uppers (λ w z w_in z_in. upper_implies w z (falling w w_in) (falling z z_in)) in
       let above : pos 0 <ℤ neg_ℤ (slope best) = above_neg (slope best) (falling best is.there) in
-      let meets : Meets best (rest best -ℤ pos 1) (neg_ℤ (slope best)) = subst (λ (z : ℤ). IsEnough (bound_relation (strict best)) z) (past_upper (slope best) (rest best)) (IsEnough-above (bound_relation (strict best)) (neg_ℤ (slope best)) (bound_apart (strict best)) above) in
-      (rest best -ℤ pos 1, neg_ℤ (slope best), record { above = above; within = λ x none. absurd none }, record { above = above; within = all_within (y ∷ uppers) best _ _ is above meets })
+      let meets : Meets best (rest best -ℤ pos 1) (neg_ℤ (slope best)) = subst (λ (z : ℤ). IsEnough (bound_relation (strict best)) z)
+      (past_upper (slope best) (rest best)) (IsEnough-above (bound_relation (strict best)) (neg_ℤ (slope best)) (bound_apart (strict best)) above) in (
+        rest best -ℤ pos 1,
+        neg_ℤ (slope best),
+        record { above = above; within = λ x none. absurd none },
+        record { above = above; within = all_within (y ∷ uppers) best _ _ is above meets },
+      )
   between (x ∷ lowers) (y ∷ uppers) rising falling leaves =
       let (low, low_is) = tightest x lowers (λ w z w_in z_in. lower_implies w z (rising w w_in) (rising z z_in)) in
       let (high, high_is) = tightest y uppers (λ w z w_in z_in. upper_implies w z (falling w w_in) (falling z z_in)) in
@@ -187,10 +209,14 @@ module _ {X : Type 0} (slope rest : X → ℤ) (strict : X → Bool) where
       let v : ℤ = rest low *ℤ slope high +ℤ rest high *ℤ slope low in
       let low_meets : Meets low v (pos 2 *ℤ (slope low *ℤ neg_ℤ (slope high))) =
       subst (λ (z : ℤ). IsEnough (bound_relation (strict low)) z) (middle_lower (slope low) (rest low) (slope high) (rest high))
-      (IsEnough-times (bound_relation (strict low)) _ (slope low) low_above (IsEnough-weaker (bound_relation (strict low || strict high)) (bound_relation (strict low)) _ (bound_implies (strict low || strict high) (strict low) ∙ or_first (strict low) (strict high)) enough)) in
+      (IsEnough-times (bound_relation (strict low)) _ (slope low) low_above
+      (IsEnough-weaker (bound_relation (strict low || strict high)) (bound_relation (strict low)) _
+      (bound_implies (strict low || strict high) (strict low) ∙ or_first (strict low) (strict high)) enough)) in
       let high_meets : Meets high v (pos 2 *ℤ (slope low *ℤ neg_ℤ (slope high))) =
       subst (λ (z : ℤ). IsEnough (bound_relation (strict high)) z) (middle_upper (slope low) (rest low) (slope high) (rest high))
-      (IsEnough-times (bound_relation (strict high)) _ (neg_ℤ (slope high)) high_above (IsEnough-weaker (bound_relation (strict low || strict high)) (bound_relation (strict high)) _ (bound_implies (strict low || strict high) (strict high) ∙ or_second (strict low) (strict high)) enough)) in (
+      (IsEnough-times (bound_relation (strict high)) _ (neg_ℤ (slope high)) high_above
+      (IsEnough-weaker (bound_relation (strict low || strict high)) (bound_relation (strict high)) _
+      (bound_implies (strict low || strict high) (strict high) ∙ or_second (strict low) (strict high)) enough)) in (
         v,
         pos 2 *ℤ (slope low *ℤ neg_ℤ (slope high)),
         record { above = above; within = all_within (x ∷ lowers) low _ _ low_is above low_meets },

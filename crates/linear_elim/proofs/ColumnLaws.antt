@@ -1,4 +1,5 @@
-use Rattle.std.proofs.Common.{◌≡◌, ◌≢◌, ltb, ℕ, zero, suc, ◌+◌, ◌-◌, ◌<◌, ◌≤◌, ◌==◌, Bool, true, false, if◌then◌else◌, List, [], ◌∷◌, get_or, length, drop, map, ℤ, pos, refl, sym, ap, ◌∙◌, arith, add-one}
+use Rattle.std.proofs.Common.{◌≡◌, ◌≢◌, ltb, ℕ, zero, suc, ◌+◌, ◌-◌, ◌<◌, ◌≤◌, ◌==◌, Bool, true, false, if◌then◌else◌, List, [], ◌∷◌, get_or, length}
+use Rattle.std.proofs.Common.{drop, map, ℤ, pos, refl, sym, ap, ◌∙◌, arith, add-one}
 use Rattle.std.proofs.Math.Seq.{drop-cons}
 use Rattle.std.specs.Bool.{Decides}
 use Rattle.std.proofs.lemmas.Bool.Decides.{Decides-eqb, Decides-ltb}
@@ -18,14 +19,18 @@ beside-place [] (i ∷ fields) f same = absurd (omega arith)
 beside-place (x ∷ xs) [] f same = absurd (omega arith)
 beside-place (x ∷ xs) (i ∷ fields) f same = by (i == f) (beside-place xs fields f (omega arith))
   where
-    by : (b : Bool) → get_or xs (place_in fields f) (pos 0) ≡ beside (pos 0) fields xs f → get_or (x ∷ xs) (if b then 0 else suc (place_in fields f)) (pos 0) ≡ (if b then x else beside (pos 0) fields xs f)
+    by : (b : Bool) → get_or xs (place_in fields f) (pos 0) ≡ beside (pos 0) fields xs f
+        → get_or (x ∷ xs) (if b then 0 else suc (place_in fields f)) (pos 0) ≡ (if b then x else beside (pos 0) fields xs f)
     by true rest = refl
     by false rest = rest
 
 -- a line's factor at the field
-pub factor-place : (line : LineParts) (xs : List ℤ) (f place : ℕ) (x : ℤ) → xs ≡ line.factors → length line.factors ≡ length (number_fields line.shape) → place ≡ place_in (number_fields line.shape) f
+pub factor-place : (line : LineParts) (xs : List ℤ) (f place : ℕ) (x : ℤ) → xs ≡ line.factors → length line.factors ≡ length (number_fields line.shape)
+    → place ≡ place_in (number_fields line.shape) f
     → x ≡ get_or xs place (pos 0) → x ≡ factor line f
-factor-place line xs f place x factors_are count place_is at = at ∙ ap (λ (ys : List ℤ). get_or ys place (pos 0)) factors_are ∙ ap (λ k. get_or line.factors k (pos 0)) place_is ∙ beside-place line.factors (number_fields line.shape) f count
+factor-place line xs f place x factors_are count place_is at =
+    at ∙ ap (λ (ys : List ℤ). get_or ys place (pos 0)) factors_are ∙ ap (λ k. get_or line.factors k (pos 0)) place_is
+    ∙ beside-place line.factors (number_fields line.shape) f count
 
 -- past the end there is 0
 pub past-end : (xs : List ℤ) (i : ℕ) → false ≡ ltb i (length xs) → pos 0 ≡ get_or xs i (pos 0)
@@ -49,11 +54,13 @@ place-skips counts i f (suc k) below at above =
     rw (add-one) (ap (λ ks. place_in (numbers_from i (map domain_with ks)) f) (drop-cons counts i (suc k) below ∙ ap (λ j. j ∷ drop (suc i) counts) (sym at)))
 
 -- at a numerical field
-pub place-there : (counts : List ℕ) (i f k : ℕ) → i < length counts → k ≡ get_or counts i k → k ≡ 0 → place_from counts i f ≡ (if i == f then 0 else suc (place_from counts (i + 1) f))
+pub place-there : (counts : List ℕ) (i f k : ℕ) → i < length counts → k ≡ get_or counts i k → k ≡ 0
+    → place_from counts i f ≡ (if i == f then 0 else suc (place_from counts (i + 1) f))
 place-there counts i f k below at none =
     rw (add-one) (ap (λ ks. place_in (numbers_from i (map domain_with ks)) f) (drop-cons counts i k below ∙ ap (λ j. j ∷ drop (suc i) counts) (sym at ∙ none)))
 
-module _ (counts : List ℕ) (i f place count : ℕ) (below : i < length counts) (at : count ≡ get_or counts i count) (before : place + place_from counts i f ≡ place_from counts 0 f) where
+module _ (counts : List ℕ) (i f place count : ℕ) (below : i < length counts) (at : count ≡ get_or counts i count)
+    (before : place + place_from counts i f ≡ place_from counts 0 f) where
   -- a field with codes takes no place
   pub skips-place : (0 < count) → place + place_from counts (i + 1) f ≡ place_from counts 0 f
   skips-place above = ap (λ n. place + n) (sym (place-skips counts i f count below at above)) ∙ before
@@ -90,9 +97,11 @@ name_from counts i left = place_named (numbers_from i (map domain_with (drop i c
 pub name-skips : (counts : List ℕ) (i left k : ℕ) → i < length counts → k ≡ get_or counts i k → 0 < k → name_from counts i left ≡ name_from counts (i + 1) left
 name-skips counts i left zero below at above = absurd (omega arith)
 name-skips counts i left (suc k) below at above =
-    rw (add-one) (ap (λ ks. place_named (numbers_from i (map domain_with ks)) left) (drop-cons counts i (suc k) below ∙ ap (λ j. j ∷ drop (suc i) counts) (sym at)))
+    rw (add-one) (ap (λ ks. place_named (numbers_from i (map domain_with ks)) left)
+    (drop-cons counts i (suc k) below ∙ ap (λ j. j ∷ drop (suc i) counts) (sym at)))
 
-numerical-here : (counts : List ℕ) (i left k : ℕ) → i < length counts → k ≡ get_or counts i k → k ≡ 0 → name_from counts i left ≡ place_named (i ∷ numbers_from (suc i) (map domain_with (drop (suc i) counts))) left
+numerical-here : (counts : List ℕ) (i left k : ℕ) → i < length counts → k ≡ get_or counts i k → k ≡ 0
+    → name_from counts i left ≡ place_named (i ∷ numbers_from (suc i) (map domain_with (drop (suc i) counts))) left
 numerical-here counts i left k below at none =
     ap (λ ks. place_named (numbers_from i (map domain_with ks)) left) (drop-cons counts i k below ∙ ap (λ j. j ∷ drop (suc i) counts) (sym at ∙ none))
 
@@ -101,9 +110,11 @@ pub name-there : (counts : List ℕ) (i left k : ℕ) → i < length counts → 
 name-there counts i left k below at none first = ap (λ n. name_from counts i n) first ∙ numerical-here counts i 0 k below at none
 
 -- the others come after it
-pub name-moves : (counts : List ℕ) (i left k : ℕ) → i < length counts → k ≡ get_or counts i k → k ≡ 0 → left ≢ 0 → name_from counts i left ≡ name_from counts (i + 1) (left - 1)
+pub name-moves : (counts : List ℕ) (i left k : ℕ) → i < length counts → k ≡ get_or counts i k → k ≡ 0 → left ≢ 0
+    → name_from counts i left ≡ name_from counts (i + 1) (left - 1)
 name-moves counts i zero k below at none more = absurd (more refl)
-name-moves counts i (suc left) k below at none more = let less : suc left - 1 ≡ left = omega arith in rw (less, add-one) (numerical-here counts i (suc left) k below at none)
+name-moves counts i (suc left) k below at none more = let less : suc left - 1
+    ≡ left = omega arith in rw (less, add-one) (numerical-here counts i (suc left) k below at none)
 
 -- past the last field there is the constant
 pub name-end : (counts : List ℕ) (i left : ℕ) → length counts ≤ i → name_from counts i left ≡ Constant

@@ -1,4 +1,5 @@
-use Rattle.std.proofs.Common.{◌≡◌, inl, inr, ℕ, suc, ◌+◌, ◌≤◌, ◌<◌, add-one, drop, get_or, length, Bool, true, false, if◌then◌else◌, IsSomeAnd, slice_get, List, [], ◌∷◌, Option, Some, None, refl, sym, ap, ◌∙◌, subst, arith}
+use Rattle.std.proofs.Common.{◌≡◌, inl, inr, ℕ, suc, ◌+◌, ◌≤◌, ◌<◌, add-one, drop, get_or, length, Bool, true, false, if◌then◌else◌, IsSomeAnd}
+use Rattle.std.proofs.Common.{slice_get, List, [], ◌∷◌, Option, Some, None, refl, sym, ap, ◌∙◌, subst, arith}
 use Rattle.std.specs.List.{find}
 use Rattle.std.proofs.Math.Seq.{drop-cons}
 use Rattle.std.proofs.lemmas.List.{drop_all}
@@ -19,7 +20,8 @@ module _ (f : ℕ) where
   equality-at whole i (s ∷ lines) e at found = by (determines f s.line) refl found (equality-at whole (suc i) lines e (later-at whole i s lines at))
     where
       by : (b : Bool) → determines f s.line ≡ b → (if b then Some (i, s) else equality_from f (suc i) lines) ≡ Some e
-          → (equality_from f (suc i) lines ≡ Some e → (slice_get whole e.0 ≡ Some e.1) × (determines f e.1.line ≡ true)) → (slice_get whole e.0 ≡ Some e.1) × (determines f e.1.line ≡ true)
+          → (equality_from f (suc i) lines ≡ Some e → (slice_get whole e.0 ≡ Some e.1) × (determines f e.1.line ≡ true))
+          → (slice_get whole e.0 ≡ Some e.1) × (determines f e.1.line ≡ true)
       by true is h rest =
           let same : (i, s) ≡ e = same_Some (i, s) e h in
           subst (λ (p : ℕ × Derived). (slice_get whole p.0 ≡ Some p.1) × (determines f p.1.line ≡ true)) same (first-at whole i s lines at, is)
@@ -35,11 +37,13 @@ module _ (f : ℕ) where
       by false h rest = let later = rest h in omega (arith, later)
 
   -- without places it is the same
-  pub equality-plain : (i : ℕ) (lines : List Derived) (e : ℕ × Derived) → equality_from f i lines ≡ Some e → find (determines f) (lines_of lines) ≡ Some e.1.line
+  pub equality-plain : (i : ℕ) (lines : List Derived) (e : ℕ × Derived) → equality_from f i lines ≡ Some e
+      → find (determines f) (lines_of lines) ≡ Some e.1.line
   equality-plain i [] e found = absurd (cc)
   equality-plain i (s ∷ lines) e found = by (determines f s.line) found (equality-plain (suc i) lines e)
     where
-      by : (b : Bool) → (if b then Some (i, s) else equality_from f (suc i) lines) ≡ Some e → (equality_from f (suc i) lines ≡ Some e → find (determines f) (lines_of lines) ≡ Some e.1.line)
+      by : (b : Bool) → (if b then Some (i, s) else equality_from f (suc i) lines) ≡ Some e
+          → (equality_from f (suc i) lines ≡ Some e → find (determines f) (lines_of lines) ≡ Some e.1.line)
           → (if b then Some s.line else find (determines f) (lines_of lines)) ≡ Some e.1.line
       by true h rest = ap (λ (p : ℕ × Derived). Some p.1.line) (same_Some (i, s) e h)
       by false h rest = rest h
@@ -48,7 +52,8 @@ module _ (f : ℕ) where
   no_equality-plain i [] none = refl
   no_equality-plain i (s ∷ lines) none = by (determines f s.line) none (no_equality-plain (suc i) lines)
     where
-      by : (b : Bool) → (if b then Some (i, s) else equality_from f (suc i) lines) ≡ None → (equality_from f (suc i) lines ≡ None → find (determines f) (lines_of lines) ≡ None)
+      by : (b : Bool) → (if b then Some (i, s) else equality_from f (suc i) lines) ≡ None
+          → (equality_from f (suc i) lines ≡ None → find (determines f) (lines_of lines) ≡ None)
           → (if b then Some s.line else find (determines f) (lines_of lines)) ≡ None
       by true h rest = absurd (cc)
       by false h rest = rest h
@@ -65,11 +70,14 @@ pub equality-found : (f : ℕ) (lines : List Derived) (i : ℕ) (s : Derived) �
 equality-found f lines i s below at is so_far =
     let split : drop i lines ≡ s ∷ drop (suc i) lines = drop-cons lines i s below ∙ ap (λ (x : Derived). x ∷ drop (suc i) lines) (sym at) in
     let found : equality_from f 0 lines ≡ Some (i, s) =
-    sym so_far ∙ ap (λ (ls : List Derived). equality_from f i ls) split ∙ ap (λ (b : Bool). if b then Some (i, s) else equality_from f (suc i) (drop (suc i) lines)) is in
-    subst (λ (o : Option Derived). IsSomeAnd o (λ (e : Derived). equality_from f 0 lines ≡ Some (i, e))) (sym (slice_get_read lines (length lines) i s refl below at)) found
+    sym so_far ∙ ap (λ (ls : List Derived). equality_from f i ls) split
+    ∙ ap (λ (b : Bool). if b then Some (i, s) else equality_from f (suc i) (drop (suc i) lines)) is in
+    subst (λ (o : Option Derived). IsSomeAnd o (λ (e : Derived). equality_from f 0 lines ≡ Some (i, e)))
+    (sym (slice_get_read lines (length lines) i s refl below at)) found
 
 -- and past the last line there is none
-pub equality-none : (f : ℕ) (lines : List Derived) (i : ℕ) → length lines ≤ i → equality_from f i (drop i lines) ≡ equality_from f 0 lines → equality_from f 0 lines ≡ None
+pub equality-none : (f : ℕ) (lines : List Derived) (i : ℕ) → length lines ≤ i → equality_from f i (drop i lines) ≡ equality_from f 0 lines
+    → equality_from f 0 lines ≡ None
 equality-none f lines i past so_far = sym so_far ∙ ap (λ (ls : List Derived). equality_from f i ls) (drop_all i lines past)
 
 -- a line further
@@ -77,12 +85,15 @@ pub equality-more : (f : ℕ) (lines : List Derived) (i : ℕ) (s : Derived) →
     → equality_from f i (drop i lines) ≡ equality_from f 0 lines → equality_from f (i + 1) (drop (i + 1) lines) ≡ equality_from f 0 lines
 equality-more f lines i s below at is so_far =
     let split : drop i lines ≡ s ∷ drop (suc i) lines = drop-cons lines i s below ∙ ap (λ (x : Derived). x ∷ drop (suc i) lines) (sym at) in
-    rw (add-one) (sym (ap (λ (ls : List Derived). equality_from f i ls) split ∙ ap (λ (b : Bool). if b then Some (i, s) else equality_from f (suc i) (drop (suc i) lines)) is) ∙ so_far)
+    rw (add-one) (sym (ap (λ (ls : List Derived). equality_from f i ls) split
+    ∙ ap (λ (b : Bool). if b then Some (i, s) else equality_from f (suc i) (drop (suc i) lines)) is) ∙ so_far)
 
 module _ (f : ℕ) (lines : List Derived) (k : ℕ) (first : IsFirstEquality f lines k) where
   -- the line that is read at its place is it
   pub equality-read : (s : Derived) → k < length lines → s ≡ get_or lines k s → equality_from f 0 lines ≡ Some (k, s)
-  equality-read s below at = subst (λ (o : Option Derived). IsSomeAnd o (λ (e : Derived). equality_from f 0 lines ≡ Some (k, e))) (slice_get_read lines (length lines) k s refl below at) first
+  equality-read s below at =
+      subst (λ (o : Option Derived). IsSomeAnd o (λ (e : Derived). equality_from f 0 lines ≡ Some (k, e)))
+      (slice_get_read lines (length lines) k s refl below at) first
 
   -- so there is one
   pub equality-below : length lines ≤ k → ⊥

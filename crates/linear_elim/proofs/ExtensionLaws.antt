@@ -1,4 +1,5 @@
-use Rattle.std.proofs.Common.{◌≡◌, ◌≢◌, ℕ, suc, ◌+◌, ◌<◌, ◌≤◌, ◌||◌, ◌==◌, if◌then◌else◌, Bool, true, false, List, [], ◌∷◌, ◌++◌, filter, length, nat_lt, IsTrue, Option, Some, None, IfNone, IfSome, Result, Ok, Err, refl, sym, ap, ◌∙◌, subst, arith}
+use Rattle.std.proofs.Common.{◌≡◌, ◌≢◌, ℕ, suc, ◌+◌, ◌<◌, ◌≤◌, ◌||◌, ◌==◌, if◌then◌else◌, Bool, true, false, List, [], ◌∷◌, ◌++◌, filter, length}
+use Rattle.std.proofs.Common.{nat_lt, IsTrue, Option, Some, None, IfNone, IfSome, Result, Ok, Err, refl, sym, ap, ◌∙◌, subst, arith}
 use Rattle.std.specs.Prelude.{option_map}
 use Rattle.std.proofs.lemmas.Bool.Decides.{Decides-eqb}
 use Rattle.foundation.specs.Results.{◌>>=◌, fault_as}
@@ -54,7 +55,8 @@ module _ (shape : List Domain) (set end : ℕ) (all : AreNumerical shape set) (w
       by false is = let past : end ≤ f = grind (arith, is) in none-past shape set all f (omega (arith, past, whole))
 
   -- a field of the set, behind which none is below the end, is the last
-  pub last-found : (last : Option ℕ) → IfSome last (λ f. (has_number set f ≡ true) × ((g : ℕ) → f < g → g < end → has_number set g ≡ false)) → IfSome last (λ f. IsLast set f)
+  pub last-found : (last : Option ℕ) → IfSome last (λ f. (has_number set f ≡ true) × ((g : ℕ) → f < g → g < end → has_number set g ≡ false))
+      → IfSome last (λ f. IsLast set f)
   last-found None found = tt
   last-found (Some f) found = record { own = found.0; past = λ g behind. by_end (λ h. f < h) (λ h below later. found.1 h later below) g behind }
 
@@ -79,7 +81,8 @@ module _ (set last : ℕ) (is : IsLast set last) where
   last-with = sym (with-is (without_number set last) last set is.own (λ f apart. sym (has-without_other set last f apart)))
 
 -- they are chosen before it
-pub last-chosen : (shape : List Domain) (set last : ℕ) → IsLast set last → IsNumerical shape last → chosen_fields shape set ≡ chosen_fields shape (without_number set last) ++ last ∷ []
+pub last-chosen : (shape : List Domain) (set last : ℕ) → IsLast set last → IsNumerical shape last
+    → chosen_fields shape set ≡ chosen_fields shape (without_number set last) ++ last ∷ []
 last-chosen shape set last is number = chosen-more shape (without_number set last) set last number (record {
   own = is.own;
   others = λ f apart. sym (has-without_other set last f apart);
@@ -98,7 +101,8 @@ numerical-less shape set last all f there = by (f == last) (Decides-eqb f last).
 
 module _ (first set : ℕ) (is : IsFirstOf first set) where
   -- they are chosen first
-  first-from : (i : ℕ) (shape : List Domain) → (rest : List ℕ) × (filter (has_number set) (numbers_from i shape) ≡ filter (has_number first) (numbers_from i shape) ++ rest)
+  first-from : (i : ℕ) (shape : List Domain) → (rest : List ℕ)
+      × (filter (has_number set) (numbers_from i shape) ≡ filter (has_number first) (numbers_from i shape) ++ rest)
   first-from i [] = ([], refl)
   first-from i (Categorical k ∷ shape) = first-from (suc i) shape
   first-from i (Numerical ∷ shape) = by (nat_lt i is.bound) refl (first-from (suc i) shape)
@@ -106,16 +110,19 @@ module _ (first set : ℕ) (is : IsFirstOf first set) where
       chosen : List ℕ
       chosen = filter (has_number set) (numbers_from i (Numerical ∷ shape))
 
-      by : (b : Bool) → nat_lt i is.bound ≡ b → (rest : List ℕ) × (filter (has_number set) (numbers_from (suc i) shape) ≡ filter (has_number first) (numbers_from (suc i) shape) ++ rest)
+      by : (b : Bool) → nat_lt i is.bound ≡ b → (rest : List ℕ)
+          × (filter (has_number set) (numbers_from (suc i) shape) ≡ filter (has_number first) (numbers_from (suc i) shape) ++ rest)
           → (rest : List ℕ) × (chosen ≡ filter (has_number first) (numbers_from i (Numerical ∷ shape)) ++ rest)
       by false past later =
-          let none : filter (has_number first) (numbers_from i (Numerical ∷ shape)) ≡ [] = none-chosen first i (Numerical ∷ shape) (λ g after. is.none g (let b : is.bound ≤ i = grind (arith, past) in omega (arith, b, after))) in
+          let none : filter (has_number first) (numbers_from i (Numerical ∷ shape))
+          ≡ [] = none-chosen first i (Numerical ∷ shape) (λ g after. is.none g (let b : is.bound ≤ i = grind (arith, past) in omega (arith, b, after))) in
           (chosen, ap (λ fs. fs ++ chosen) (sym none))
       by true here later =
           let (rest, same) = later in
           (rest, rw (is.below i (grind (arith, here))) (either (has_number set i) rest same))
         where
-          either : (b : Bool) (rest : List ℕ) → filter (has_number set) (numbers_from (suc i) shape) ≡ filter (has_number first) (numbers_from (suc i) shape) ++ rest
+          either : (b : Bool) (rest : List ℕ) → filter (has_number set) (numbers_from (suc i) shape)
+              ≡ filter (has_number first) (numbers_from (suc i) shape) ++ rest
               → (if b then i ∷ filter (has_number set) (numbers_from (suc i) shape) else filter (has_number set) (numbers_from (suc i) shape))
               ≡ (if b then i ∷ filter (has_number first) (numbers_from (suc i) shape) else filter (has_number first) (numbers_from (suc i) shape)) ++ rest
           either true rest same = ap (λ fs. i ∷ fs) same
@@ -145,7 +152,8 @@ module _ (first set : ℕ) (is : IsFirstOf first set) where
       by true within = absurd (other (whole (grind (arith, within))))
       by false past = record {
         bound = is.bound;
-        below = λ f under. is.below f under ∙ sym (has-without_other set last f (λ same. let b : is.bound ≤ last = grind (arith, past) in absurd (omega (arith, b, under, same))));
+        below = λ f under. is.below f under ∙ sym (has-without_other set last f
+            (λ same. let b : is.bound ≤ last = grind (arith, past) in absurd (omega (arith, b, under, same))));
         none = is.none;
       }
 
@@ -182,7 +190,9 @@ module _ (edits : EditsParts) (set last : ℕ) (number : IsNumerical edits.shape
 
   -- and combines no more pairs than with one field more
   pub pairs-part : pairs_at edits set ≤ pairs_at edits (with_number set last)
-  pairs-part = subst (λ (n : ℕ). pairs_at edits set ≤ n) (sym (ap (λ (fs : List ℕ). fold_count base fs) chosen)) (count-part base (chosen_fields edits.shape set) (last ∷ []))
+  pairs-part =
+      subst (λ (n : ℕ). pairs_at edits set ≤ n) (sym (ap (λ (fs : List ℕ). fold_count base fs) chosen))
+      (count-part base (chosen_fields edits.shape set) (last ∷ []))
 
   module _ (lines : List Derived) (is : system_at edits set ≡ Ok lines) where
     after : system_at edits (with_number set last) ≡ (fault_as (overflow_at last) (step_result lines last) >>= (λ next. Ok next))
@@ -213,6 +223,7 @@ module _ (edits : EditsParts) (set last : ℕ) (number : IsNumerical edits.shape
 -- ---- what a fault tells
 
 -- what follows from a fault that is told in another way
-pub if_mapped : {F G : Type 0} (P : F → Type 0) (Q : G → Type 0) (tell : F → G) (fault : Option F) → ((f : F) → P f → Q (tell f)) → IfSome fault P → IfSome (option_map tell fault) Q
+pub if_mapped : {F G : Type 0} (P : F → Type 0) (Q : G → Type 0) (tell : F → G) (fault : Option F) → ((f : F) → P f → Q (tell f)) → IfSome fault P
+    → IfSome (option_map tell fault) Q
 if_mapped P Q tell None follows told = tt
 if_mapped P Q tell (Some f) follows told = follows f told

@@ -11,7 +11,8 @@ module _ {X : Type 0} (test : X → Bool) where
   found-in e [] found = absurd (cc)
   found-in e (x ∷ xs) found = by (test x) refl found (found-in e xs)
     where
-      by : (b : Bool) → test x ≡ b → (if b then Some x else find test xs) ≡ Some e → (find test xs ≡ Some e → IsIn e xs × (test e ≡ true)) → IsIn e (x ∷ xs) × (test e ≡ true)
+      by : (b : Bool) → test x ≡ b → (if b then Some x else find test xs) ≡ Some e → (find test xs ≡ Some e → IsIn e xs × (test e ≡ true))
+          → IsIn e (x ∷ xs) × (test e ≡ true)
       by true is h rest = let same : e ≡ x = cc in (inl same, cc)
       by false is h rest = let (there, passes) = rest h in (inr there, passes)
 
@@ -20,7 +21,8 @@ module _ {X : Type 0} (test : X → Bool) where
   none-found x [] none there = absurd there
   none-found x (y ∷ xs) none there = by (test y) refl none there (none-found x xs)
     where
-      by : (b : Bool) → test y ≡ b → (if b then Some y else find test xs) ≡ None → IsIn x (y ∷ xs) → (find test xs ≡ None → IsIn x xs → test x ≡ false) → test x ≡ false
+      by : (b : Bool) → test y ≡ b → (if b then Some y else find test xs) ≡ None → IsIn x (y ∷ xs) → (find test xs ≡ None → IsIn x xs → test x ≡ false)
+          → test x ≡ false
       by true is h there rest = absurd (cc)
       by false is h (inl same) rest = cc
       by false is h (inr there) rest = rest h there
@@ -40,7 +42,8 @@ module _ {X : Type 0} (test : X → Bool) where
   found-or_other e x [] found there = absurd there
   found-or_other e x (y ∷ xs) found there = by (test y) found there (found-or_other e x xs)
     where
-      by : (b : Bool) → (if b then Some y else find test xs) ≡ Some e → IsIn x (y ∷ xs) → (find test xs ≡ Some e → IsIn x xs → (x ≡ e) ⊎ IsIn x (without_first test xs))
+      by : (b : Bool) → (if b then Some y else find test xs) ≡ Some e → IsIn x (y ∷ xs)
+          → (find test xs ≡ Some e → IsIn x xs → (x ≡ e) ⊎ IsIn x (without_first test xs))
           → (x ≡ e) ⊎ IsIn x (if b then xs else y ∷ without_first test xs)
       by true h (inl same) rest = inl (cc)
       by true h (inr there) rest = inr there

@@ -50,22 +50,30 @@ module _ (edits : EditsParts) (start : List Derived) (of : IsReducedOf edits.sha
     made-flat f there = subst (λ (ls : List LineParts). AreFlat f ls) (sym plain) (fold-flat edits.shape (lines_of start) fields f start_over there)
 
     -- they hold where some values at the fields make the edits hold
-    pub made-holds : (p q : Point) → All (IsNumerical edits.shape) fields → DiffersOnlyIn fields p q → AllHold (map (λ (e : ℕ × LineParts). e.1) edits.lines) q → AllHold (lines_of ys) p
+    pub made-holds : (p q : Point) → All (IsNumerical edits.shape) fields → DiffersOnlyIn fields p q
+        → AllHold (map (λ (e : ℕ × LineParts). e.1) edits.lines) q → AllHold (lines_of ys) p
     made-holds p q numbers differs holds =
-        subst (λ (ls : List LineParts). AllHold ls p) (sym plain) (fold-holds edits.shape (lines_of start) fields p q start_over numbers differs ((start-same edits.shape edits.lines start of.edits of.lines_are q).1 holds))
+        subst (λ (ls : List LineParts). AllHold ls p) (sym plain)
+        (fold-holds edits.shape (lines_of start) fields p q start_over numbers differs
+        ((start-same edits.shape edits.lines start of.edits of.lines_are q).1 holds))
 
     -- and where they hold, some values at the fields, with the same codes, make the edits hold
-    pub made-lifts : (p : Point) → AllHold (lines_of ys) p → (q : Point) × DiffersOnlyIn fields p q × ((i : ℕ) → q.code i ≡ p.code i) × AllHold (map (λ (e : ℕ × LineParts). e.1) edits.lines) q
+    pub made-lifts : (p : Point) → AllHold (lines_of ys) p
+        → (q : Point) × DiffersOnlyIn fields p q × ((i : ℕ) → q.code i ≡ p.code i) × AllHold (map (λ (e : ℕ × LineParts). e.1) edits.lines) q
     made-lifts p holds =
-        let (q, differs, codes, at_q) = fold-lifts edits.shape (lines_of start) fields p start_over (subst (λ (ls : List LineParts). AllHold ls p) plain holds) in
+        let (q, differs, codes, at_q) = fold-lifts edits.shape (lines_of start) fields p start_over
+        (subst (λ (ls : List LineParts). AllHold ls p) plain holds) in
         (q, differs, codes, (start-same edits.shape edits.lines start of.edits of.lines_are q).0 at_q)
 
     -- without fields the lines are edits
     pub made-edits : fields ≡ [] → All (IsEdit edits.lines) ys
-    made-edits none = subst (λ (ds : List Derived). All (IsEdit edits.lines) ds) (ok_same start ys (fold_result start []) refl (ap (λ fs. fold_result start fs) (sym none) ∙ folded)) start-edits
+    made-edits none =
+        subst (λ (ds : List Derived). All (IsEdit edits.lines) ds)
+        (ok_same start ys (fold_result start []) refl (ap (λ fs. fold_result start fs) (sym none) ∙ folded)) start-edits
 
     -- else they come from those of the system without all fields but the last
-    pub made-comes : (before : List ℕ) (last : ℕ) → fields ≡ before ++ last ∷ [] → (lines : List Derived) × (system_of edits.lines before ≡ Ok lines) × AllComeFrom lines ys
+    pub made-comes : (before : List ℕ) (last : ℕ) → fields ≡ before ++ last ∷ []
+        → (lines : List Derived) × (system_of edits.lines before ≡ Ok lines) × AllComeFrom lines ys
     made-comes before last are =
         let (reached, reached_is, stepped) = fold-next start before last ys (ap (λ fs. fold_result start fs) (sym are) ∙ folded) in (
           reached,

@@ -1,4 +1,5 @@
-use Rattle.std.proofs.Common.{◌≡◌, ◌≢◌, ℕ, zero, suc, ◌<◌, ◌≤◌, ◌*◌, ◌^◌, ◌==◌, Bool, true, false, if◌then◌else◌, List, [], ◌∷◌, ◌++◌, Some, None, length, ℤ, pos, negsuc, ◌*ℤ◌, unsigned_abs, refl, sym, subst, arith}
+use Rattle.std.proofs.Common.{◌≡◌, ◌≢◌, ℕ, zero, suc, ◌<◌, ◌≤◌, ◌*◌, ◌^◌, ◌==◌, Bool, true, false, if◌then◌else◌, List, [], ◌∷◌, ◌++◌, Some, None}
+use Rattle.std.proofs.Common.{length, ℤ, pos, negsuc, ◌*ℤ◌, unsigned_abs, refl, sym, subst, arith}
 use Rattle.std.proofs.lemmas.Bool.Decides.{Decides-ltb}
 use Rattle.std.proofs.lemmas.Int.{unsigned_abs-mul}
 use Rattle.fraction128.specs.Range.{InRange}
@@ -19,13 +20,15 @@ ranged : (z : ℤ) → in_range z ≡ true → InRange z
 ranged z h = (Decides-ltb (unsigned_abs z) (2 ^ 127)).0 h
 
 -- the products at a field are in range, where no number leaves the range
-pub products-beside : (i : ℕ) (m n x y : ℤ) (fields : List ℕ) (first second : List ℤ) (f : ℕ) → length first ≡ length second → first_overflow i m n (first ++ x ∷ []) (second ++ y ∷ []) ≡ None
+pub products-beside : (i : ℕ) (m n x y : ℤ) (fields : List ℕ) (first second : List ℤ) (f : ℕ) → length first ≡ length second
+    → first_overflow i m n (first ++ x ∷ []) (second ++ y ∷ []) ≡ None
     → InRange (m *ℤ beside (pos 0) fields first f) × InRange (n *ℤ beside (pos 0) fields second f)
 products-beside i m n x y [] first second f same fits = (no_product m, no_product n)
 products-beside i m n x y (g ∷ fields) [] [] f same fits = (no_product m, no_product n)
 products-beside i m n x y (g ∷ fields) [] (b ∷ second) f same fits = absurd (omega (arith, same))
 products-beside i m n x y (g ∷ fields) (a ∷ first) [] f same fits = absurd (omega (arith, same))
-products-beside i m n x y (g ∷ fields) (a ∷ first) (b ∷ second) f same fits = by (sum_fits m n a b) refl fits (products-beside (suc i) m n x y fields first second f (omega (arith, same)))
+products-beside i m n x y (g ∷ fields) (a ∷ first) (b ∷ second) f same fits =
+    by (sum_fits m n a b) refl fits (products-beside (suc i) m n x y fields first second f (omega (arith, same)))
   where
     at : (c : Bool) → InRange (m *ℤ a) → InRange (n *ℤ b) → InRange (m *ℤ beside (pos 0) fields first f) × InRange (n *ℤ beside (pos 0) fields second f)
         → InRange (m *ℤ (if c then a else beside (pos 0) fields first f)) × InRange (n *ℤ (if c then b else beside (pos 0) fields second f))
@@ -33,7 +36,8 @@ products-beside i m n x y (g ∷ fields) (a ∷ first) (b ∷ second) f same fit
     at false one two rest = rest
 
     by : (s : Bool) → sum_fits m n a b ≡ s → (if s then first_overflow (suc i) m n (first ++ x ∷ []) (second ++ y ∷ []) else Some i) ≡ None
-        → (first_overflow (suc i) m n (first ++ x ∷ []) (second ++ y ∷ []) ≡ None → InRange (m *ℤ beside (pos 0) fields first f) × InRange (n *ℤ beside (pos 0) fields second f))
+        → (first_overflow (suc i) m n (first ++ x ∷ []) (second ++ y ∷ []) ≡ None
+        → InRange (m *ℤ beside (pos 0) fields first f) × InRange (n *ℤ beside (pos 0) fields second f))
         → InRange (m *ℤ (if g == f then a else beside (pos 0) fields first f)) × InRange (n *ℤ (if g == f then b else beside (pos 0) fields second f))
     by true is h rest =
         let (one, more) = both_true (in_range (m *ℤ a)) _ is in

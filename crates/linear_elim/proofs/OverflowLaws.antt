@@ -1,4 +1,5 @@
-use Rattle.std.proofs.Common.{◌≡◌, ◌+◌, ◌<◌, ◌==◌, Bool, true, false, if◌then◌else◌, slice_get, ℕ, zero, suc, ℤ, pos, List, [], ◌∷◌, get_or, Option, Some, None, Result, Ok, Err, refl, sym, ap, ◌∙◌, subst, arith}
+use Rattle.std.proofs.Common.{◌≡◌, ◌+◌, ◌<◌, ◌==◌, Bool, true, false, if◌then◌else◌, slice_get, ℕ, zero, suc, ℤ, pos, List, [], ◌∷◌, get_or, Option}
+use Rattle.std.proofs.Common.{Some, None, Result, Ok, Err, refl, sym, ap, ◌∙◌, subst, arith}
 use Rattle.foundation.specs.Results.{◌>>=◌, fault_as}
 use Rattle.edit_line.specs.EditSets.{base_lines}
 use Rattle.edit_line.specs.Lines.{LineParts}
@@ -15,7 +16,8 @@ use Rattle.edit_line.proofs.BoolLaws.{both_true, true-both}
 use Rattle.edit_line.proofs.ListPlaces.{whole-at}
 use Rattle.linear_elim.proofs.EqualityPlaces.{equality-at}
 use Rattle.linear_elim.proofs.ResultLaws.{followed}
-use Rattle.linear_elim.specs.Steps.{StepOverflow, collect, equality_from, flat_from, followed_by, is_opposite, made_result, made_with, pair_result, paired, reduced_result, row_result, step_result, substituted_result, substitutes, with_more}
+use Rattle.linear_elim.specs.Steps.{StepOverflow, collect, equality_from, flat_from, followed_by, is_opposite, made_result, made_with, pair_result}
+use Rattle.linear_elim.specs.Steps.{paired, reduced_result, row_result, step_result, substituted_result, substitutes, with_more}
 
 -- A step has no list exactly where a number of a combination leaves the range, and tells the first.
 
@@ -43,7 +45,8 @@ own_number i = omega arith
 
 module _ {X Y F : Type 0} (each : ℕ → X → Result (List Y) F) where
   -- where there is a list, each element gives one
-  collect-each : (i : ℕ) (xs : List X) (ys : List Y) → collect each i xs ≡ Ok ys → (j : ℕ) (x : X) → slice_get xs j ≡ Some x → (zs : List Y) × (each (i + j) x ≡ Ok zs)
+  collect-each : (i : ℕ) (xs : List X) (ys : List Y) → collect each i xs ≡ Ok ys → (j : ℕ) (x : X) → slice_get xs j ≡ Some x
+      → (zs : List Y) × (each (i + j) x ≡ Ok zs)
   collect-each i [] ys e j x at = absurd (cc)
   collect-each i (y ∷ xs) ys e zero x at =
       let (first, rest, first_is, rest_is, joined_is) = followed (each i y) (collect each (suc i) xs) ys e in
@@ -81,7 +84,8 @@ module _ {X Y F : Type 0} (each : ℕ → X → Result (List Y) F) where
             before = before found;
           }
         where
-          before : (found : IsFirstFault each (suc i) xs fault) (j : ℕ) (z : X) → j < suc found.k → slice_get (y ∷ xs) j ≡ Some z → (ws : List Y) × (each (i + j) z ≡ Ok ws)
+          before : (found : IsFirstFault each (suc i) xs fault) (j : ℕ) (z : X) → j < suc found.k → slice_get (y ∷ xs) j ≡ Some z
+              → (ws : List Y) × (each (i + j) z ≡ Ok ws)
           before found zero z below at = (zs, ap (λ k. each k z) (sym (own_number i)) ∙ ap (λ (w : X). each i w) (some_same z y (Some y) at refl) ∙ first)
           before found (suc j) z below at = let (ws, is) = found.before j z (omega arith) at in (ws, ap (λ k. each k z) (sym (next_number i j)) ∙ is)
 
@@ -97,7 +101,8 @@ module _ (made : Bool) (f i : ℕ) (s : Derived) (j : ℕ) (t : Derived) where
   pair-fits zs is e = by made (overflow_of s.line t.line f) is e
     where
       by : (b : Bool) (o : Option ℕ) → b ≡ true
-          → (if b then paired s.line.shape i j (unless_overflow o (combined_with (first_multiplier s.line t.line f) (second_multiplier s.line t.line f) s.line t.line)) else Ok []) ≡ Ok zs → o ≡ None
+          → (if b then paired s.line.shape i j (unless_overflow o
+          (combined_with (first_multiplier s.line t.line f) (second_multiplier s.line t.line f) s.line t.line)) else Ok []) ≡ Ok zs → o ≡ None
       by true None b_is e = refl
       by true (Some place) b_is e = absurd (cc)
       by false o b_is e = absurd (cc)
@@ -113,7 +118,8 @@ module _ (made : Bool) (f i : ℕ) (s : Derived) (j : ℕ) (t : Derived) where
   pair-fails o e = by made (overflow_of s.line t.line f) refl refl e
     where
       by : (b : Bool) (found : Option ℕ) → made ≡ b → overflow_of s.line t.line f ≡ found
-          → (if b then paired s.line.shape i j (unless_overflow found (combined_with (first_multiplier s.line t.line f) (second_multiplier s.line t.line f) s.line t.line)) else Ok []) ≡ Err o → ShowsPlace o
+          → (if b then paired s.line.shape i j (unless_overflow found
+          (combined_with (first_multiplier s.line t.line f) (second_multiplier s.line t.line f) s.line t.line)) else Ok []) ≡ Err o → ShowsPlace o
       by true None is leaves e = absurd (cc)
       by true (Some number) is leaves e = record { is_made = is; number = number; leaves = leaves; told = err_same _ o _ refl e }
       by false found is leaves e = absurd (cc)
@@ -121,7 +127,8 @@ module _ (made : Bool) (f i : ℕ) (s : Derived) (j : ℕ) (t : Derived) where
 -- ---- the first place of one pair
 
 -- a place that is told is the first at which a number leaves the range
-first-place : (i : ℕ) (m n : ℤ) (first second : List ℤ) (k : ℕ) → first_overflow i m n first second ≡ Some k → (place : ℕ) × (k ≡ i + place) × IsFirstPlace m n first second place
+first-place : (i : ℕ) (m n : ℤ) (first second : List ℤ) (k : ℕ) → first_overflow i m n first second ≡ Some k
+    → (place : ℕ) × (k ≡ i + place) × IsFirstPlace m n first second place
 first-place i m n [] second k e = absurd (cc)
 first-place i m n (a ∷ first) [] k e = absurd (cc)
 first-place i m n (a ∷ first) (b ∷ second) k e = by (sum_fits m n a b) refl e (first-place (suc i) m n first second k)
@@ -132,12 +139,14 @@ first-place i m n (a ∷ first) (b ∷ second) k e = by (sum_fits m n a b) refl 
     by : (fits : Bool) → sum_fits m n a b ≡ fits → (if fits then first_overflow (suc i) m n first second else Some i) ≡ Some k
         → (first_overflow (suc i) m n first second ≡ Some k → (place : ℕ) × (k ≡ suc i + place) × IsFirstPlace m n first second place)
         → (place : ℕ) × (k ≡ i + place) × IsFirstPlace m n (a ∷ first) (b ∷ second) place
-    by false here e later = (0, some_same k i (Some i) e refl ∙ own_number i, record { here = here; within = omega arith; earlier = λ j below. absurd (none j below) })
+    by false here e later =
+        (0, some_same k i (Some i) e refl ∙ own_number i, record { here = here; within = omega arith; earlier = λ j below. absurd (none j below) })
     by true here e later =
         let (place, is, found) = later e in
         (suc place, is ∙ next_number i place, record { here = found.here; within = omega (arith, found.within); earlier = before place found })
       where
-        before : (place : ℕ) → IsFirstPlace m n first second place → (j : ℕ) → j < suc place → sum_fits m n (get_or (a ∷ first) j (pos 0)) (get_or (b ∷ second) j (pos 0)) ≡ true
+        before : (place : ℕ) → IsFirstPlace m n first second place → (j : ℕ) → j < suc place
+            → sum_fits m n (get_or (a ∷ first) j (pos 0)) (get_or (b ∷ second) j (pos 0)) ≡ true
         before place found zero below = here
         before place found (suc j) below = found.earlier j (omega arith)
 
@@ -158,13 +167,16 @@ module _ (lines : List Derived) (f : ℕ) where
   row-fits i s zs lower e j t at opposite = by (is_lower f s.line) lower e
     where
       by : (b : Bool) → b ≡ true → (if b then collect (pair_result f i s) 0 lines else Ok []) ≡ Ok zs → overflow_of s.line t.line f ≡ None
-      by true b_is e = let (ws, is) = collect-each (pair_result f i s) 0 lines zs e j t at in pair-fits (is_opposite f s.line t.line) f i s (0 + j) t ws opposite is
+      by true b_is e = let (ws, is) = collect-each (pair_result f i s) 0 lines zs e j t at in pair-fits (is_opposite f s.line t.line) f i s (0 + j) t ws
+          opposite is
       by false b_is e = absurd (cc)
 
-  row-fails : (i : ℕ) (s : Derived) (o : StepOverflow) → row_result f lines i s ≡ Err o → (is_lower f s.line ≡ true) × IsFirstFault (pair_result f i s) 0 lines o
+  row-fails : (i : ℕ) (s : Derived) (o : StepOverflow) → row_result f lines i s ≡ Err o
+      → (is_lower f s.line ≡ true) × IsFirstFault (pair_result f i s) 0 lines o
   row-fails i s o e = by (is_lower f s.line) refl e
     where
-      by : (b : Bool) → is_lower f s.line ≡ b → (if b then collect (pair_result f i s) 0 lines else Ok []) ≡ Err o → (is_lower f s.line ≡ true) × IsFirstFault (pair_result f i s) 0 lines o
+      by : (b : Bool) → is_lower f s.line ≡ b → (if b then collect (pair_result f i s) 0 lines else Ok []) ≡ Err o
+          → (is_lower f s.line ≡ true) × IsFirstFault (pair_result f i s) 0 lines o
       by true lower e = (lower, collect-fails (pair_result f i s) 0 lines o e)
       by false lower e = absurd (cc)
 
@@ -172,7 +184,8 @@ module _ (lines : List Derived) (f : ℕ) where
   from_start k = omega arith
 
   -- where an equality has the field, it is the one that is combined
-  the_equality : (e : ℕ × Derived) (i j : ℕ) (s t : Derived) → equality_from f 0 lines ≡ Some e → slice_get lines i ≡ Some s → AreCombined lines f i s.line j t.line
+  the_equality : (e : ℕ × Derived) (i j : ℕ) (s t : Derived) → equality_from f 0 lines ≡ Some e → slice_get lines i ≡ Some s
+      → AreCombined lines f i s.line j t.line
       → (e.0 ≡ i) × (e.1 ≡ s) × (substitutes f e.0 j t.line ≡ true)
   the_equality e i j s t found s_at pair =
       let (place, substituted) = both_true (e.0 == i) _ (ap (λ o. combines o f i s.line j t.line) (sym found) ∙ pair) in
@@ -181,7 +194,8 @@ module _ (lines : List Derived) (f : ℕ) where
       (same, some_same e.1 s (slice_get lines i) at s_at, ap (λ k. substitutes f k j t.line) same ∙ substituted)
 
   -- where no number of a substitution leaves the range
-  substituted-fits : (e : ℕ × Derived) (rest : List Derived) (i j : ℕ) (s t : Derived) → equality_from f 0 lines ≡ Some e → collect (substituted_result f e.0 e.1) 0 lines ≡ Ok rest
+  substituted-fits : (e : ℕ × Derived) (rest : List Derived) (i j : ℕ) (s t : Derived) → equality_from f 0 lines ≡ Some e
+      → collect (substituted_result f e.0 e.1) 0 lines ≡ Ok rest
       → slice_get lines i ≡ Some s → slice_get lines j ≡ Some t → AreCombined lines f i s.line j t.line → overflow_of s.line t.line f ≡ None
   substituted-fits e rest i j s t found is s_at t_at pair =
       let (place, same, substituted) = the_equality e i j s t found s_at pair in
@@ -201,7 +215,8 @@ module _ (lines : List Derived) (f : ℕ) where
   pub step-fits : (ys : List Derived) → step_result lines f ≡ Ok ys → AllPairsFit lines f
   step-fits ys e i j s t s_at t_at pair = by (equality_from f 0 lines) (made_result lines f) refl refl e
     where
-      by : (found : Option (ℕ × Derived)) (r : Result (List Derived) StepOverflow) → equality_from f 0 lines ≡ found → made_result lines f ≡ r → reduced_result (with_more (flat_from f 0 lines) r) ≡ Ok ys → overflow_of s.line t.line f ≡ None
+      by : (found : Option (ℕ × Derived)) (r : Result (List Derived) StepOverflow) → equality_from f 0 lines ≡ found → made_result lines f ≡ r
+          → reduced_result (with_more (flat_from f 0 lines) r) ≡ Ok ys → overflow_of s.line t.line f ≡ None
       by (Some found) (Ok rest) found_is is e = substituted-fits found rest i j s t found_is (ap (λ o. made_with o lines f) (sym found_is) ∙ is) s_at t_at pair
       by None (Ok rest) none is e = combined-fits rest i j s t none (ap (λ o. made_with o lines f) (sym none) ∙ is) s_at t_at pair
       by found (Err fault) found_is is e = absurd (cc)
@@ -235,15 +250,18 @@ module _ (lines : List Derived) (f : ℕ) where
                 let same : s ≡ row.x = some_same s row.x (slice_get lines o.first) s_at (subst (λ k. slice_get lines k ≡ Some row.x) first row.at) in
                 let (zs, is) = pair.before j t (omega (arith, second, below)) t_at in
                 ap (λ (d : Derived). overflow_of d.line t.line f) same
-                ∙ pair-fits (is_opposite f row.x.line t.line) f (0 + row.k) row.x (0 + j) t zs (ap (λ (d : Derived). is_opposite f d.line t.line) (sym same) ∙ s_opposite) is;
+                ∙ pair-fits (is_opposite f row.x.line t.line) f (0 + row.k) row.x (0 + j) t zs
+                (ap (λ (d : Derived). is_opposite f d.line t.line) (sym same) ∙ s_opposite) is;
           }
 
-      equality_told : (found : ℕ × Derived) → equality_from f 0 lines ≡ Some found → IsFirstFault (substituted_result f found.0 found.1) 0 lines o → IsFirstOverflow lines f o
+      equality_told : (found : ℕ × Derived) → equality_from f 0 lines ≡ Some found → IsFirstFault (substituted_result f found.0 found.1) 0 lines o
+          → IsFirstOverflow lines f o
       equality_told found found_is pair =
           let shown = pair-fails (substitutes f found.0 (0 + pair.k) pair.x.line) f found.0 found.1 (0 + pair.k) pair.x o pair.fails in
           let first : found.0 ≡ o.first = ap (λ (p : StepOverflow). p.first) shown.told in
           let second : pair.k ≡ o.second = sym (from_start pair.k) ∙ ap (λ (p : StepOverflow). p.second) shown.told in
-          let own : slice_get lines o.first ≡ Some found.1 = subst (λ k. slice_get lines k ≡ Some found.1) first (equality-at f lines 0 lines found (whole-at lines) found_is).0 in
+          let own : slice_get lines o.first ≡ Some found.1 = subst (λ k. slice_get lines k ≡ Some found.1) first
+          (equality-at f lines 0 lines found (whole-at lines) found_is).0 in
           let substituted : substitutes f o.first o.second pair.x.line ≡ true =
           (λ i. substitutes f (sym first i) ((sym second ∙ sym (from_start pair.k)) i) pair.x.line) ∙ shown.is_made in
           record {
@@ -251,7 +269,8 @@ module _ (lines : List Derived) (f : ℕ) where
             t = pair.x;
             first = own;
             second = subst (λ k. slice_get lines k ≡ Some pair.x) second pair.at;
-            combined = ap (λ e. combines e f o.first found.1.line o.second pair.x.line) found_is ∙ true-both _ _ ((Decides-eqb found.0 o.first).1 first) substituted;
+            combined = ap (λ e. combines e f o.first found.1.line o.second pair.x.line) found_is
+                ∙ true-both _ _ ((Decides-eqb found.0 o.first).1 first) substituted;
             number = shown.number;
             leaves = shown.leaves;
             first_place = overflow-first _ _ (numbers found.1.line) (numbers pair.x.line) shown.number shown.leaves;
@@ -262,15 +281,19 @@ module _ (lines : List Derived) (f : ℕ) where
                 let (place, same, other) = the_equality found o.first j s t found_is s_at pair_is in
                 let (zs, is) = pair.before j t (omega (arith, second, below)) t_at in
                 ap (λ (d : Derived). overflow_of d.line t.line f) (sym same)
-                ∙ pair-fits (substitutes f found.0 (0 + j) t.line) f found.0 found.1 (0 + j) t zs (ap (λ k. substitutes f found.0 k t.line) (from_start j) ∙ other) is;
+                ∙ pair-fits (substitutes f found.0 (0 + j) t.line) f found.0 found.1 (0 + j) t zs
+                (ap (λ k. substitutes f found.0 k t.line) (from_start j) ∙ other) is;
           }
 
-      by : (found : Option (ℕ × Derived)) (r : Result (List Derived) StepOverflow) → equality_from f 0 lines ≡ found → made_result lines f ≡ r → reduced_result (with_more (flat_from f 0 lines) r) ≡ Err o → IsFirstOverflow lines f o
+      by : (found : Option (ℕ × Derived)) (r : Result (List Derived) StepOverflow) → equality_from f 0 lines ≡ found → made_result lines f ≡ r
+          → reduced_result (with_more (flat_from f 0 lines) r) ≡ Err o → IsFirstOverflow lines f o
       by found (Ok rest) found_is is e = absurd (cc)
       by (Some found) (Err fault) found_is is e =
-          equality_told found found_is (collect-fails (substituted_result f found.0 found.1) 0 lines o (ap (λ k. made_with k lines f) (sym found_is) ∙ is ∙ ap (λ (g : StepOverflow). Err g) (err_same fault o (Err fault) refl e)))
+          equality_told found found_is (collect-fails (substituted_result f found.0 found.1) 0 lines o
+          (ap (λ k. made_with k lines f) (sym found_is) ∙ is ∙ ap (λ (g : StepOverflow). Err g) (err_same fault o (Err fault) refl e)))
       by None (Err fault) none is e =
-          rows_told none (collect-fails (row_result f lines) 0 lines o (ap (λ k. made_with k lines f) (sym none) ∙ is ∙ ap (λ (g : StepOverflow). Err g) (err_same fault o (Err fault) refl e)))
+          rows_told none (collect-fails (row_result f lines) 0 lines o
+          (ap (λ k. made_with k lines f) (sym none) ∙ is ∙ ap (λ (g : StepOverflow). Err g) (err_same fault o (Err fault) refl e)))
 
   -- so there is a list exactly where no number of any combination leaves the range
   pub step-exact : AllPairsFit lines f → (ys : List Derived) × (step_result lines f ≡ Ok ys)
@@ -281,7 +304,8 @@ module _ (lines : List Derived) (f : ℕ) where
 
       by : (r : Result (List Derived) StepOverflow) → step_result lines f ≡ r → (ys : List Derived) × (r ≡ Ok ys)
       by (Ok ys) is = (ys, refl)
-      by (Err o) is = let shown = step-overflows o is in absurd (clash shown.number _ shown.leaves (fits o.first o.second shown.s shown.t shown.first shown.second shown.combined))
+      by (Err o) is = let shown = step-overflows o is in absurd
+          (clash shown.number _ shown.leaves (fits o.first o.second shown.s shown.t shown.first shown.second shown.combined))
 
 -- ---- the fold
 
@@ -309,10 +333,12 @@ fold-overflows lines (f ∷ fields) o e = by (step_result lines f) refl e (λ ne
           after = found.after;
           fields_are = ap (λ (fs : List ℕ). f ∷ fs) found.fields_are;
           reached = found.reached;
-          reached_are = ap (λ (r : Result (List Derived) StepOverflow). (fault_as (overflow_at f) r >>= (λ more. fold_result more found.before))) is ∙ found.reached_are;
+          reached_are = ap (λ (r : Result (List Derived) StepOverflow). (fault_as (overflow_at f) r >>= (λ more. fold_result more found.before))) is
+              ∙ found.reached_are;
           overflow = found.overflow;
         }
 
 -- so does the system
-pub system-overflows : (edits : List (ℕ × LineParts)) (fields : List ℕ) (o : SystemOverflow) → system_of edits fields ≡ Err o → IsFoldOverflow (reduce_derived (base_lines edits)) fields o
+pub system-overflows : (edits : List (ℕ × LineParts)) (fields : List ℕ) (o : SystemOverflow) → system_of edits fields ≡ Err o
+    → IsFoldOverflow (reduce_derived (base_lines edits)) fields o
 system-overflows edits fields o e = fold-overflows (reduce_derived (base_lines edits)) fields o e

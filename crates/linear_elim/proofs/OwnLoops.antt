@@ -13,7 +13,8 @@ use Rattle.linear_elim.proofs.ResultLaws.{flat-plain, ok_same}
 
 -- the lines without the field need no reduction
 pub flat-own : (f : ℕ) (lines : List Derived) → AreOwn (lines_of lines) → reduce_derived (flat_from f 0 lines) ≡ flat_from f 0 lines
-flat-own f lines own = reduce-own (flat_from f 0 lines) (subst (λ (ls : List LineParts). AreOwn ls) (sym (flat-plain f 0 lines)) (own-filter (is_flat f) (lines_of lines) own))
+flat-own f lines own =
+    reduce-own (flat_from f 0 lines) (subst (λ (ls : List LineParts). AreOwn ls) (sym (flat-plain f 0 lines)) (own-filter (is_flat f) (lines_of lines) own))
 
 -- those that the fold begins with
 pub own-start : (base start : List Derived) → start ≡ reduce_derived base → AreOwn (lines_of start)

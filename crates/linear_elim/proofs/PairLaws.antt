@@ -1,4 +1,5 @@
-use Rattle.std.proofs.Common.{◌≡◌, ◌≢◌, Bool, true, false, if◌then◌else◌, inl, inr, int_lt, ◌≤ℤ◌, ℕ, zero, suc, List, [], ◌∷◌, All, map, ℤ, pos, negsuc, ◌<ℤ◌, ◌+ℤ◌, ◌*ℤ◌, int_div, unsigned_abs, refl, sym, ap, ◌∙◌, subst, arith}
+use Rattle.std.proofs.Common.{◌≡◌, ◌≢◌, Bool, true, false, if◌then◌else◌, inl, inr, int_lt, ◌≤ℤ◌, ℕ, zero, suc, List, [], ◌∷◌, All, map, ℤ, pos}
+use Rattle.std.proofs.Common.{negsuc, ◌<ℤ◌, ◌+ℤ◌, ◌*ℤ◌, int_div, unsigned_abs, refl, sym, ap, ◌∙◌, subst, arith}
 use lib.IntN.{neg_ℤ}
 use Rattle.std.specs.Int.{◌∣◌}
 use Rattle.std.proofs.lemmas.List.{length-map}
@@ -19,7 +20,7 @@ use Rattle.edit_line.proofs.LineSums.{AreSets-meets}
 use Rattle.edit_line.proofs.RelationLaws.{joined-equal, keeps-above}
 use Rattle.edit_line.proofs.WholeSets.{in_both-same, whole-meets}
 use Rattle.edit_line.proofs.AllowedSums.{IsAllowedSum, IsCombined, KeepsEnough}
-use Rattle.linear_elim.specs.Combinations.{combination, first_multiplier, second_multiplier, turned_by}
+use Rattle.linear_elim.specs.Combinations.{combination, first_multiplier, second_multiplier, with_sign_of}
 use Rattle.linear_elim.proofs.BetweenLaws.{above_neg, by_sign}
 use Rattle.edit_line.proofs.CombinationLaws.{beside-combined, beside-scaled, length-combined, length-meets}
 
@@ -41,7 +42,9 @@ divided-combined m n s t same = record {
   same = same;
   sets = refl;
   factors = quotients-whole _ _ (divides-factors (combined m n s.factors t.factors) (m *ℤ s.constant +ℤ n *ℤ t.constant));
-  constant = comm (divisor_of (combined m n s.factors t.factors) (m *ℤ s.constant +ℤ n *ℤ t.constant)) _ ∙ quotient-exact _ _ _ refl (divides-constant (combined m n s.factors t.factors) (m *ℤ s.constant +ℤ n *ℤ t.constant));
+  constant =
+      comm (divisor_of (combined m n s.factors t.factors) (m *ℤ s.constant +ℤ n *ℤ t.constant)) _
+      ∙ quotient-exact _ _ _ refl (divides-constant (combined m n s.factors t.factors) (m *ℤ s.constant +ℤ n *ℤ t.constant));
   relation = refl;
 }
 
@@ -52,7 +55,7 @@ size_neg (pos zero) = refl
 size_neg (pos (suc n)) = refl
 size_neg (negsuc n) = refl
 
-size_turned : (a z : ℤ) → unsigned_abs (turned_by a z) ≡ unsigned_abs z
+size_turned : (a z : ℤ) → unsigned_abs (with_sign_of a z) ≡ unsigned_abs z
 size_turned a z = by (int_lt a (pos 0))
   where
     by : (b : Bool) → unsigned_abs (if b then neg_ℤ z else z) ≡ unsigned_abs z
@@ -60,7 +63,7 @@ size_turned a z = by (int_lt a (pos 0))
     by false = refl
 
 -- turned by a number above 0, a number stays
-turned-by_above : (a z : ℤ) → pos 0 <ℤ a → turned_by a z ≡ z
+turned-by_above : (a z : ℤ) → pos 0 <ℤ a → with_sign_of a z ≡ z
 turned-by_above a z above = by (int_lt a (pos 0)) refl
   where
     by : (b : Bool) → int_lt a (pos 0) ≡ b → (if b then neg_ℤ z else z) ≡ z
@@ -68,7 +71,7 @@ turned-by_above a z above = by (int_lt a (pos 0)) refl
     by false e = refl
 
 -- turned by itself, it is above 0
-pub turned-itself : (a : ℤ) → a ≢ pos 0 → pos 0 <ℤ turned_by a a
+pub turned-itself : (a : ℤ) → a ≢ pos 0 → pos 0 <ℤ with_sign_of a a
 turned-itself a apart = by (int_lt a (pos 0)) refl
   where
     below : int_lt a (pos 0) ≡ true → a <ℤ pos 0
@@ -85,7 +88,7 @@ turned-itself a apart = by (int_lt a (pos 0)) refl
     ]
 
 -- only 0 turns to 0
-turned-none : (a z : ℤ) → turned_by a (neg_ℤ z) ≡ pos 0 → z ≡ pos 0
+turned-none : (a z : ℤ) → with_sign_of a (neg_ℤ z) ≡ pos 0 → z ≡ pos 0
 turned-none a z = by (int_lt a (pos 0))
   where
     by : (b : Bool) → (if b then neg_ℤ (neg_ℤ z) else neg_ℤ z) ≡ pos 0 → z ≡ pos 0
@@ -93,35 +96,44 @@ turned-none a z = by (int_lt a (pos 0))
     by false e = omega (arith, ints, e)
 
 module _ (s t : LineParts) (f : ℕ) where
-  first-exact : first_multiplier s t f *ℤ pos (gcd (unsigned_abs (factor s f)) (unsigned_abs (factor t f))) ≡ turned_by (factor s f) (neg_ℤ (factor t f))
+  first-exact : first_multiplier s t f *ℤ pos (gcd (unsigned_abs (factor s f)) (unsigned_abs (factor t f))) ≡ with_sign_of (factor s f) (neg_ℤ (factor t f))
   unfolding first_multiplier
-  first-exact = quotient-exact (turned_by (factor s f) (neg_ℤ (factor t f))) _ _ refl divides
+  first-exact = quotient-exact (with_sign_of (factor s f) (neg_ℤ (factor t f))) _ _ refl divides
     where
-      divides : gcd (unsigned_abs (factor s f)) (unsigned_abs (factor t f)) ∣ unsigned_abs (turned_by (factor s f) (neg_ℤ (factor t f)))
-      divides = subst (λ n. gcd (unsigned_abs (factor s f)) (unsigned_abs (factor t f)) ∣ n) (sym (size_turned (factor s f) (neg_ℤ (factor t f)) ∙ size_neg (factor t f))) (IsGcd-gcd (unsigned_abs (factor s f)) (unsigned_abs (factor t f))).1
+      divides : gcd (unsigned_abs (factor s f)) (unsigned_abs (factor t f)) ∣ unsigned_abs (with_sign_of (factor s f) (neg_ℤ (factor t f)))
+      divides =
+          subst (λ n. gcd (unsigned_abs (factor s f)) (unsigned_abs (factor t f)) ∣ n)
+          (sym (size_turned (factor s f) (neg_ℤ (factor t f)) ∙ size_neg (factor t f))) (IsGcd-gcd (unsigned_abs (factor s f)) (unsigned_abs (factor t f))).1
 
-  divides_s : gcd (unsigned_abs (factor s f)) (unsigned_abs (factor t f)) ∣ unsigned_abs (turned_by (factor s f) (factor s f))
-  divides_s = subst (λ n. gcd (unsigned_abs (factor s f)) (unsigned_abs (factor t f)) ∣ n) (sym (size_turned (factor s f) (factor s f))) (IsGcd-gcd (unsigned_abs (factor s f)) (unsigned_abs (factor t f))).0
+  divides_s : gcd (unsigned_abs (factor s f)) (unsigned_abs (factor t f)) ∣ unsigned_abs (with_sign_of (factor s f) (factor s f))
+  divides_s =
+      subst (λ n. gcd (unsigned_abs (factor s f)) (unsigned_abs (factor t f)) ∣ n) (sym (size_turned (factor s f) (factor s f)))
+      (IsGcd-gcd (unsigned_abs (factor s f)) (unsigned_abs (factor t f))).0
 
-  second-exact : second_multiplier s t f *ℤ pos (gcd (unsigned_abs (factor s f)) (unsigned_abs (factor t f))) ≡ turned_by (factor s f) (factor s f)
+  second-exact : second_multiplier s t f *ℤ pos (gcd (unsigned_abs (factor s f)) (unsigned_abs (factor t f))) ≡ with_sign_of (factor s f) (factor s f)
   unfolding second_multiplier
-  second-exact = quotient-exact (turned_by (factor s f) (factor s f)) _ _ refl divides_s
+  second-exact = quotient-exact (with_sign_of (factor s f) (factor s f)) _ _ refl divides_s
 
   -- the second is positive
   pub second-above : factor s f ≢ pos 0 → pos 0 <ℤ second_multiplier s t f
   unfolding second_multiplier
-  second-above apart = quotient-above (turned_by (factor s f) (factor s f)) _ _ refl divides_s (turned-itself (factor s f) apart)
+  second-above apart = quotient-above (with_sign_of (factor s f) (factor s f)) _ _ refl divides_s (turned-itself (factor s f) apart)
 
   -- so is the first, where the lines are above and below 0 at the field
   pub first-above : pos 0 <ℤ factor s f → factor t f <ℤ pos 0 → pos 0 <ℤ first_multiplier s t f
-  first-above above below = above_cancel (first_multiplier s t f) (pos (gcd (unsigned_abs (factor s f)) (unsigned_abs (factor t f)))) (divisor-positive below) (subst (λ (z : ℤ). pos 0 <ℤ z) (sym (first-exact ∙ turned-by_above (factor s f) (neg_ℤ (factor t f)) above)) (above_neg (factor t f) below))
+  first-above above below =
+      above_cancel (first_multiplier s t f) (pos (gcd (unsigned_abs (factor s f)) (unsigned_abs (factor t f)))) (divisor-positive below)
+      (subst (λ (z : ℤ). pos 0 <ℤ z) (sym (first-exact ∙ turned-by_above (factor s f) (neg_ℤ (factor t f)) above)) (above_neg (factor t f) below))
     where
       divisor-positive : factor t f <ℤ pos 0 → pos 0 <ℤ pos (gcd (unsigned_abs (factor s f)) (unsigned_abs (factor t f)))
       divisor-positive below = common_divisor-above (factor s f) (factor t f) _ refl (λ none. absurd (omega (arith, ints, none, below)))
 
   -- and it is not 0 where the field stands in t
   pub first-apart : factor t f ≢ pos 0 → first_multiplier s t f ≢ pos 0
-  first-apart apart none = apart (turned-none (factor s f) (factor t f) (sym first-exact ∙ ap (λ (m : ℤ). m *ℤ pos (gcd (unsigned_abs (factor s f)) (unsigned_abs (factor t f)))) none ∙ nothing (pos (gcd (unsigned_abs (factor s f)) (unsigned_abs (factor t f))))))
+  first-apart apart none =
+      apart (turned-none (factor s f) (factor t f) (sym first-exact
+      ∙ ap (λ (m : ℤ). m *ℤ pos (gcd (unsigned_abs (factor s f)) (unsigned_abs (factor t f)))) none
+      ∙ nothing (pos (gcd (unsigned_abs (factor s f)) (unsigned_abs (factor t f))))))
     where
       nothing : (g : ℤ) → pos 0 *ℤ g ≡ pos 0
       nothing g = rw (parts g) (simp ring (same_dif _ _ _ _ (omega arith)))
@@ -177,7 +189,8 @@ opposite-allowed f s t above below meet = record {
 }
 
 -- an equality with the field, and another line with it
-pub equality-allowed : (shape : List Domain) (f : ℕ) (e t : LineParts) → HasShape shape e → HasShape shape t → e.relation ≡ Equal → factor e f ≢ pos 0 → factor t f ≢ pos 0 → IsAllowedPair f e t
+pub equality-allowed : (shape : List Domain) (f : ℕ) (e t : LineParts) → HasShape shape e → HasShape shape t → e.relation ≡ Equal → factor e f ≢ pos 0
+    → factor t f ≢ pos 0 → IsAllowedPair f e t
 equality-allowed shape f e t one two equal e_stands t_stands = record {
   first_stands = e_stands;
   second_stands = t_stands;
@@ -203,19 +216,24 @@ combination_divisor s t f =
     divisor_of (sum_of (first_multiplier s t f) (second_multiplier s t f) s t).factors (sum_of (first_multiplier s t f) (second_multiplier s t f) s t).constant
 
 -- the combination of such a pair is an allowed sum
-pub combination-is : (s t : LineParts) (f : ℕ) → t.shape ≡ s.shape → IsAllowedPair f s t → IsAllowedSum (first_multiplier s t f) (second_multiplier s t f) (combination_divisor s t f) s t (combination s t f)
+pub combination-is : (s t : LineParts) (f : ℕ) → t.shape ≡ s.shape → IsAllowedPair f s t
+    → IsAllowedSum (first_multiplier s t f) (second_multiplier s t f) (combination_divisor s t f) s t (combination s t f)
 combination-is s t f same pair = record {
   m_keeps = pair.first_keeps;
   n_keeps = pair.second_keeps;
-  g_above = divisor-above (sum_of (first_multiplier s t f) (second_multiplier s t f) s t).factors (sum_of (first_multiplier s t f) (second_multiplier s t f) s t).constant;
+  g_above =
+      divisor-above (sum_of (first_multiplier s t f) (second_multiplier s t f) s t).factors
+      (sum_of (first_multiplier s t f) (second_multiplier s t f) s t).constant;
   combined = divided-combined (first_multiplier s t f) (second_multiplier s t f) s t same;
 }
 
 -- and the field is gone from it
 pub combination-flat : (s t : LineParts) (f : ℕ) → t.shape ≡ s.shape → factor (combination s t f) f ≡ pos 0
 combination-flat s t f same =
-    gone _ _ (divisor-above (sum_of (first_multiplier s t f) (second_multiplier s t f) s t).factors (sum_of (first_multiplier s t f) (second_multiplier s t f) s t).constant)
-    (factor-combined (first_multiplier s t f) (second_multiplier s t f) _ s t (combination s t f) f (divided-combined (first_multiplier s t f) (second_multiplier s t f) s t same) ∙ multipliers-cancel s t f)
+    gone _ _ (divisor-above (sum_of (first_multiplier s t f) (second_multiplier s t f) s t).factors
+    (sum_of (first_multiplier s t f) (second_multiplier s t f) s t).constant)
+    (factor-combined (first_multiplier s t f) (second_multiplier s t f) _ s t (combination s t f) f
+    (divided-combined (first_multiplier s t f) (second_multiplier s t f) s t same) ∙ multipliers-cancel s t f)
   where
     none : (g : ℤ) → pos 0 ≡ pos 0 *ℤ g
     none g = rw (parts g) (simp ring (same_dif _ _ _ _ (omega arith)))
@@ -224,12 +242,14 @@ combination-flat s t f same =
     gone g c g_above e = same_cancel c (pos 0) g g_above (comm c g ∙ e ∙ none g)
 
 -- the combination is over the fields of both
-pub HasShape-combination : (shape : List Domain) (s t : LineParts) (f : ℕ) → HasShape shape s → HasShape shape t → all_meet s.sets t.sets ≡ true → HasShape shape (combination s t f)
+pub HasShape-combination : (shape : List Domain) (s t : LineParts) (f : ℕ) → HasShape shape s → HasShape shape t → all_meet s.sets t.sets ≡ true
+    → HasShape shape (combination s t f)
 unfolding reduced
 HasShape-combination shape s t f one two meet = record {
   same = one.same;
   sets = length-meets s.sets t.sets (one.sets ∙ sym two.sets) ∙ one.sets;
-  factors = length-map _ _ ∙ length-combined (first_multiplier s t f) (second_multiplier s t f) s.factors t.factors (one.factors ∙ sym two.factors) ∙ one.factors;
+  factors =
+      length-map _ _ ∙ length-combined (first_multiplier s t f) (second_multiplier s t f) s.factors t.factors (one.factors ∙ sym two.factors) ∙ one.factors;
   fit = AreSets-meets s.sets t.sets (whole_sets shape) one.fit two.fit meet;
   whole = λ equal.
       let (s_equal, t_equal) = joined-equal s.relation t.relation equal in

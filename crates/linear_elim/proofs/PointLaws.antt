@@ -1,4 +1,5 @@
-use Rattle.std.proofs.Common.{◌≡◌, ◌≢◌, ℕ, suc, ◌<◌, ◌==◌, ◌||◌, Bool, true, false, if◌then◌else◌, List, [], ◌∷◌, map, ℤ, pos, ◌<ℤ◌, ◌+ℤ◌, ◌-ℤ◌, ◌*ℤ◌, refl, sym, ap, ◌∙◌, subst, arith}
+use Rattle.std.proofs.Common.{◌≡◌, ◌≢◌, ℕ, suc, ◌<◌, ◌==◌, ◌||◌, Bool, true, false, if◌then◌else◌, List, [], ◌∷◌, map, ℤ, pos, ◌<ℤ◌, ◌+ℤ◌, ◌-ℤ◌, ◌*ℤ◌}
+use Rattle.std.proofs.Common.{refl, sym, ap, ◌∙◌, subst, arith}
 use Rattle.std.specs.Ordering.{int_eq}
 use Rattle.std.proofs.lemmas.Bool.Decides.{Decides-eqb, Decides-int_eq}
 use Rattle.fraction128.proofs.Signs.{above-*}
@@ -20,7 +21,8 @@ beside-before f i [] factors below = refl
 beside-before f i (Numerical ∷ shape) [] below = refl
 beside-before f i (Numerical ∷ shape) (a ∷ factors) below = by (i == f) refl (beside-before f (suc i) shape factors (omega arith))
   where
-    by : (b : Bool) → (i == f) ≡ b → beside (pos 0) (numbers_from (suc i) shape) factors f ≡ pos 0 → (if b then a else beside (pos 0) (numbers_from (suc i) shape) factors f) ≡ pos 0
+    by : (b : Bool) → (i == f) ≡ b → beside (pos 0) (numbers_from (suc i) shape) factors f ≡ pos 0
+        → (if b then a else beside (pos 0) (numbers_from (suc i) shape) factors f) ≡ pos 0
     by true e rest = let same : i ≡ f = (Decides-eqb i f).0 e in absurd (omega arith)
     by false e rest = rest
 beside-before f i (Categorical k ∷ shape) factors below = beside-before f (suc i) shape factors (omega arith)
@@ -119,8 +121,10 @@ weighted-same p q i (Numerical ∷ shape) (a ∷ factors) same = by (int_eq a (p
         at_next false e = some
 
     by : (b : Bool) → int_eq a (pos 0) ≡ b
-        → weighted factors (map q.numerator (numbers_from (suc i) shape)) *ℤ p.denominator ≡ weighted factors (map p.numerator (numbers_from (suc i) shape)) *ℤ q.denominator
-        → weighted (a ∷ factors) (map q.numerator (i ∷ numbers_from (suc i) shape)) *ℤ p.denominator ≡ weighted (a ∷ factors) (map p.numerator (i ∷ numbers_from (suc i) shape)) *ℤ q.denominator
+        → weighted factors (map q.numerator (numbers_from (suc i) shape)) *ℤ p.denominator
+        ≡ weighted factors (map p.numerator (numbers_from (suc i) shape)) *ℤ q.denominator
+        → weighted (a ∷ factors) (map q.numerator (i ∷ numbers_from (suc i) shape)) *ℤ p.denominator
+        ≡ weighted (a ∷ factors) (map p.numerator (i ∷ numbers_from (suc i) shape)) *ℤ q.denominator
     by true e rest = none_on a _ _ _ _ _ _ ((Decides-int_eq a (pos 0)).0 e) rest
     by false e rest = product_on a _ _ _ _ _ _ (same i (λ is. cc (sym e ∙ (Decides-int_eq a (pos 0)).1 (sym own ∙ is)))) rest
 
@@ -149,7 +153,8 @@ LineHolds-same line p q codes same holds = record {
 }
 
 -- a line without the numerical field holds at both of two points that differ only there
-pub LineHolds-others : (line : LineParts) (p q : Point) (f : ℕ) → IsNumerical line.shape f → DiffersOnlyAt f p q → factor line f ≡ pos 0 → LineHolds line q → LineHolds line p
+pub LineHolds-others : (line : LineParts) (p q : Point) (f : ℕ) → IsNumerical line.shape f → DiffersOnlyAt f p q → factor line f ≡ pos 0 → LineHolds line q
+    → LineHolds line p
 LineHolds-others line p q f number differs none =
     LineHolds-same line p q (codes-others line.shape f p q number differs) (λ i some. differs.numbers i (λ same. some (ap (λ j. factor line j) same ∙ none)))
 
@@ -176,7 +181,8 @@ module _ (p : Point) (f c : ℕ) (v d : ℤ) (above : pos 0 <ℤ d) where
   nothing = rw (parts d) (simp ring (same_dif _ _ _ _ (omega arith)))
 
   -- the sum over fields after f
-  weighted-past : (i : ℕ) (shape : List Domain) (factors : List ℤ) → f < i → weighted factors (new_numbers i shape) ≡ weighted factors (map p.numerator (numbers_from i shape)) *ℤ d
+  weighted-past : (i : ℕ) (shape : List Domain) (factors : List ℤ) → f < i
+      → weighted factors (new_numbers i shape) ≡ weighted factors (map p.numerator (numbers_from i shape)) *ℤ d
   weighted-past i [] [] below = nothing
   weighted-past i [] (a ∷ factors) below = nothing
   weighted-past i (Categorical k ∷ shape) factors below = weighted-past (suc i) shape factors (omega arith)
@@ -187,7 +193,8 @@ module _ (p : Point) (f c : ℕ) (v d : ℤ) (above : pos 0 <ℤ d) where
       opened a x w u e = rw (e, parts a, parts x, parts w, parts d) (simp ring (same_dif _ _ _ _ (omega arith)))
 
       by : (b : Bool) → (i == f) ≡ b → weighted factors (new_numbers (suc i) shape) ≡ weighted factors (map p.numerator (numbers_from (suc i) shape)) *ℤ d
-          → a *ℤ (if b then v else p.numerator i *ℤ d) +ℤ weighted factors (new_numbers (suc i) shape) ≡ (a *ℤ p.numerator i +ℤ weighted factors (map p.numerator (numbers_from (suc i) shape))) *ℤ d
+          → a *ℤ (if b then v else p.numerator i *ℤ d) +ℤ weighted factors (new_numbers (suc i) shape)
+          ≡ (a *ℤ p.numerator i +ℤ weighted factors (map p.numerator (numbers_from (suc i) shape))) *ℤ d
       by true e rest = let same : i ≡ f = (Decides-eqb i f).0 e in absurd (omega arith)
       by false e rest = opened a (p.numerator i) _ _ rest
 
@@ -197,7 +204,8 @@ module _ (p : Point) (f c : ℕ) (v d : ℤ) (above : pos 0 <ℤ d) where
   -- the sum with the new value
   weighted-put : (i : ℕ) (shape : List Domain) (factors : List ℤ)
       → weighted factors (new_numbers i shape)
-      ≡ beside (pos 0) (numbers_from i shape) factors f *ℤ v +ℤ (weighted factors (map p.numerator (numbers_from i shape)) -ℤ beside (pos 0) (numbers_from i shape) factors f *ℤ p.numerator f) *ℤ d
+      ≡ beside (pos 0) (numbers_from i shape) factors f *ℤ v +ℤ
+      (weighted factors (map p.numerator (numbers_from i shape)) -ℤ beside (pos 0) (numbers_from i shape) factors f *ℤ p.numerator f) *ℤ d
   weighted-put i [] [] = no_sum (p.numerator f)
   weighted-put i [] (a ∷ factors) = no_sum (p.numerator f)
   weighted-put i (Categorical k ∷ shape) factors = weighted-put (suc i) shape factors
@@ -212,10 +220,12 @@ module _ (p : Point) (f c : ℕ) (v d : ℤ) (above : pos 0 <ℤ d) where
 
       by : (b : Bool) → (i == f) ≡ b
           → weighted factors (new_numbers (suc i) shape)
-          ≡ beside (pos 0) (numbers_from (suc i) shape) factors f *ℤ v +ℤ (weighted factors (map p.numerator (numbers_from (suc i) shape)) -ℤ beside (pos 0) (numbers_from (suc i) shape) factors f *ℤ p.numerator f) *ℤ d
+          ≡ beside (pos 0) (numbers_from (suc i) shape) factors f *ℤ v +ℤ
+          (weighted factors (map p.numerator (numbers_from (suc i) shape)) -ℤ beside (pos 0) (numbers_from (suc i) shape) factors f *ℤ p.numerator f) *ℤ d
           → a *ℤ (if b then v else p.numerator i *ℤ d) +ℤ weighted factors (new_numbers (suc i) shape)
           ≡ (if b then a else beside (pos 0) (numbers_from (suc i) shape) factors f) *ℤ v
-          +ℤ ((a *ℤ p.numerator i +ℤ weighted factors (map p.numerator (numbers_from (suc i) shape))) -ℤ (if b then a else beside (pos 0) (numbers_from (suc i) shape) factors f) *ℤ p.numerator f) *ℤ d
+          +ℤ ((a *ℤ p.numerator i +ℤ weighted factors (map p.numerator (numbers_from (suc i) shape))) -ℤ
+          (if b then a else beside (pos 0) (numbers_from (suc i) shape) factors f) *ℤ p.numerator f) *ℤ d
       by true e rest =
           let same : i ≡ f = (Decides-eqb i f).0 e in
           here a v (p.numerator i) _ _ (weighted-past (suc i) shape factors (omega arith))
@@ -257,9 +267,11 @@ put-code p f v d above i = by (i == f) refl
 
 -- where the line holds with the new value
 pub holds-put : (line : LineParts) (p : Point) (f : ℕ) (v d : ℤ) (above : pos 0 <ℤ d)
-    → (AreCodesIn line.sets (codes_at line.shape p) → IsEnough line.relation (factor line f *ℤ v +ℤ rest_at line f p *ℤ d)) → LineHolds line (put p f (p.code f) v d above)
+    → (AreCodesIn line.sets (codes_at line.shape p) → IsEnough line.relation (factor line f *ℤ v +ℤ rest_at line f p *ℤ d))
+    → LineHolds line (put p f (p.code f) v d above)
 holds-put line p f v d above enough = record {
   enough = λ inside.
-      let here : AreCodesIn line.sets (codes_at line.shape p) = subst (λ (cs : List ℕ). AreCodesIn line.sets cs) (map-agree _ p.code (code_fields line.shape) (λ i there. put-code p f v d above i)) inside in
+      let here : AreCodesIn line.sets (codes_at line.shape p) = subst (λ (cs : List ℕ). AreCodesIn line.sets cs)
+      (map-agree _ p.code (code_fields line.shape) (λ i there. put-code p f v d above i)) inside in
       subst (λ (z : ℤ). IsEnough line.relation z) (sym (amount-put p f (p.code f) v d above line)) (enough here);
 }

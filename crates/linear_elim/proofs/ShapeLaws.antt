@@ -34,7 +34,8 @@ OneShape-have shape lines over =
 -- each of the lines has the shape
 pub derived-shape : (shape : List Domain) (lines : List Derived) → HaveShape shape (lines_of lines) → All (λ (d : Derived). d.line.shape ≡ shape) lines
 derived-shape shape lines over =
-    all-in (λ (d : Derived). d.line.shape ≡ shape) lines (λ d there. (in-all (λ l. HasShape shape l) d.line (lines_of lines) over (in-map (λ (d : Derived). d.line) d lines there)).same)
+    all-in (λ (d : Derived). d.line.shape ≡ shape) lines
+    (λ d there. (in-all (λ l. HasShape shape l) d.line (lines_of lines) over (in-map (λ (d : Derived). d.line) d lines there)).same)
 
 -- a line is over the fields of its shape
 pub HasShape-line : (line : LineParts) → IsLine line → HasShape line.shape line
@@ -49,10 +50,12 @@ HasShape-line line is = record {
 -- so are all lines
 pub HaveShape-lines : (shape : List Domain) (lines : List LineParts) → All IsLine lines → AreOver shape lines → HaveShape shape lines
 HaveShape-lines shape lines are over = all-in (λ l. HasShape shape l) lines (λ line there.
-    subst (λ (s : List Domain). HasShape s line) (in-all (λ (l : LineParts). l.shape ≡ shape) line lines over there) (HasShape-line line (in-all IsLine line lines are there)))
+    subst (λ (s : List Domain). HasShape s line) (in-all (λ (l : LineParts). l.shape ≡ shape) line lines over there)
+    (HasShape-line line (in-all IsLine line lines are there)))
 
 -- the lines that elimination begins with are over the fields of the edits
-pub HaveShape-base : (shape : List Domain) (edits : List (ℕ × LineParts)) → HaveShape shape (map (λ (e : ℕ × LineParts). e.1) edits) → HaveShape shape (lines_of (reduce_derived (base_lines edits)))
+pub HaveShape-base : (shape : List Domain) (edits : List (ℕ × LineParts)) → HaveShape shape (map (λ (e : ℕ × LineParts). e.1) edits)
+    → HaveShape shape (lines_of (reduce_derived (base_lines edits)))
 HaveShape-base shape edits over =
     subst (λ (ls : List LineParts). HaveShape shape ls) (sym (reduce-lines (base_lines edits) ∙ ap (λ (ls : List LineParts). reduce ls) (base-plain edits)))
     (HaveShape-reduce shape (map (λ (e : ℕ × LineParts). e.1) edits) over)

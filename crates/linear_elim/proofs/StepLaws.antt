@@ -1,4 +1,5 @@
-use Rattle.std.proofs.Common.{◌≡◌, ◌≢◌, Option, Some, None, if◌then◌else◌, ◌&&◌, not, Bool, true, false, ℕ, List, All, ◌⊎◌, inl, inr, length, map, ℤ, pos, int_lt, ◌<ℤ◌, ◌+ℤ◌, ◌-ℤ◌, ◌*ℤ◌, refl, sym, ap, ◌∙◌, subst, arith}
+use Rattle.std.proofs.Common.{◌≡◌, ◌≢◌, Option, Some, None, if◌then◌else◌, ◌&&◌, not, Bool, true, false, ℕ, List, All, ◌⊎◌, inl, inr, length, map, ℤ}
+use Rattle.std.proofs.Common.{pos, int_lt, ◌<ℤ◌, ◌+ℤ◌, ◌-ℤ◌, ◌*ℤ◌, refl, sym, ap, ◌∙◌, subst, arith}
 use lib.IntN.{neg_ℤ}
 use Rattle.std.specs.Bool.{Decides}
 use Rattle.std.specs.List.{filter, find}
@@ -21,13 +22,14 @@ use Rattle.edit_line.specs.declared.relation.Relation.{Relation}
 use Rattle.edit_line.specs.declared.relation.Relation.TheVariants.{Equal}
 use Rattle.edit_line.proofs.RelationLaws.{bound_is, bounds_joined, is_equal-Decides}
 use Rattle.edit_line.proofs.WholeSets.{whole-inside}
-use Rattle.linear_elim.specs.Combinations.{combination, determines, first_multiplier, is_flat, is_lower, is_upper, second_multiplier, turned_by}
+use Rattle.linear_elim.specs.Combinations.{combination, determines, first_multiplier, is_flat, is_lower, is_upper, second_multiplier, with_sign_of}
 use Rattle.linear_elim.specs.PointChanges.{DiffersOnlyAt}
 use Rattle.linear_elim.specs.Steps.{eliminated, is_opposite, made, made_by, step, without_first}
 use Rattle.linear_elim.proofs.BetweenLaws.{IsWithin, LeavesValue, between, by_sign}
 use Rattle.edit_line.proofs.CombinationLaws.{LineHolds-combined, amount-combined, inside-all_meet, inside-meets}
 use Rattle.linear_elim.proofs.FoundLines.{found-in, found-or_other, none-found, others-there}
-use Rattle.linear_elim.proofs.PairLaws.{HasShape-combination, IsAllowedPair, combination-flat, combination-is, combination_divisor, equality-allowed, multipliers-cancel, opposite-allowed, second-above, turned-itself}
+use Rattle.linear_elim.proofs.PairLaws.{HasShape-combination, IsAllowedPair, combination-flat, combination-is, combination_divisor, equality-allowed}
+use Rattle.linear_elim.proofs.PairLaws.{multipliers-cancel, opposite-allowed, second-above, turned-itself}
 use Rattle.linear_elim.proofs.PointLaws.{LineHolds-others, holds-put, put, put-code, put-differs, rest_at}
 
 -- One step of elimination: its lines hold at a point exactly where some value at the field makes the lines hold.
@@ -98,7 +100,8 @@ IsMade lines f line = (s : LineParts) × (t : LineParts) × IsMadePair lines f s
 module _ (lines : List LineParts) (f : ℕ) where
   -- a line without the field is one of the step's
   pub flat-eliminated : (line : LineParts) → IsIn line lines → factor line f ≡ pos 0 → IsIn line (eliminated lines f)
-  flat-eliminated line there none = in-left line (filter (is_flat f) lines) (made lines f) (in-filter (is_flat f) line lines (none_told (factor line f) none) there)
+  flat-eliminated line there none =
+      in-left line (filter (is_flat f) lines) (made lines f) (in-filter (is_flat f) line lines (none_told (factor line f) none) there)
 
   -- where no equality has the field, so is the combination of each opposite pair
   pub pair-eliminated : find (determines f) lines ≡ None → (s t : LineParts) → IsOppositePair lines f s t → IsIn (combination s t f) (eliminated lines f)
@@ -107,13 +110,15 @@ module _ (lines : List LineParts) (f : ℕ) where
       (subst (λ (o : Option LineParts). IsIn (combination s t f) (made_by o lines f)) (sym none)
       (in-flat_map (λ s. map (λ t. combination s t f) (filter (is_opposite f s) lines)) s (combination s t f) (filter (is_lower f) lines)
       (in-filter (is_lower f) s lines (above_told (factor s f) pair.above) pair.first)
-      (in-map (λ t. combination s t f) t (filter (is_opposite f s) lines) (in-filter (is_opposite f s) t lines (both (is_upper f t) _ (below_told (factor t f) pair.below) pair.meet) pair.second))))
+      (in-map (λ t. combination s t f) t (filter (is_opposite f s) lines)
+      (in-filter (is_opposite f s) t lines (both (is_upper f t) _ (below_told (factor t f) pair.below) pair.meet) pair.second))))
     where
       both : (a b : Bool) → a ≡ true → b ≡ true → (a && b) ≡ true
       both a b e h = rw (e, h) refl
 
   -- and else the substitution of the first into each other line that has it
-  pub substituted-eliminated : (e t : LineParts) → find (determines f) lines ≡ Some e → IsIn t (without_first (determines f) lines) → factor t f ≢ pos 0 → IsIn (combination e t f) (eliminated lines f)
+  pub substituted-eliminated : (e t : LineParts) → find (determines f) lines ≡ Some e → IsIn t (without_first (determines f) lines) → factor t f ≢ pos 0
+      → IsIn (combination e t f) (eliminated lines f)
   substituted-eliminated e t found there apart =
       in-right (combination e t f) (filter (is_flat f) lines) (made lines f)
       (subst (λ (o : Option LineParts). IsIn (combination e t f) (made_by o lines f)) (sym found)
@@ -129,7 +134,8 @@ module _ (lines : List LineParts) (f : ℕ) where
 
   -- where there is none, no line with the field is an equality
   pub undetermined : (line : LineParts) → find (determines f) lines ≡ None → IsIn line lines → factor line f ≢ pos 0 → is_equal line.relation ≡ false
-  undetermined line none there apart = by (is_equal line.relation) (not (is_flat f line)) (stands_told (factor line f) apart) (none-found (determines f) line lines none there)
+  undetermined line none there apart =
+      by (is_equal line.relation) (not (is_flat f line)) (stands_told (factor line f) apart) (none-found (determines f) line lines none there)
     where
       by : (a b : Bool) → b ≡ true → (a && b) ≡ false → a ≡ false
       by true b e h = absurd (cc)
@@ -153,15 +159,34 @@ module _ (lines : List LineParts) (f : ℕ) where
             let (t, t_there, same) = in-map-out (λ t. combination e t f) line (filter (λ t. not (is_flat f t)) (without_first (determines f) lines)) there in
             let (t_other, stands) = in-filter-out (λ t. not (is_flat f t)) t (without_first (determines f) lines) t_there in
             let (e_in, equal, apart) = determined e found in
-            let t_in = others-there (determines f) t lines t_other in
-            (e, t, record { first = e_in; second = t_in; allowed = equality-allowed shape f e t (has e e_in) (has t t_in) equal apart (stands_tells (factor t f) stands) }, same)
+            let t_in = others-there (determines f) t lines t_other in (
+              e,
+              t,
+              record {
+                first = e_in;
+                second = t_in;
+                allowed = equality-allowed shape f e t (has e e_in) (has t t_in) equal apart
+                    (stands_tells (factor t f) stands);
+              },
+              same,
+            )
         by None none there =
-            let (s, s_there, from) = in-flat_map-out (λ s. map (λ t. combination s t f) (filter (is_opposite f s) lines)) line (filter (is_lower f) lines) there in
+            let (s, s_there, from) = in-flat_map-out (λ s. map (λ t. combination s t f) (filter (is_opposite f s) lines)) line (filter (is_lower f) lines)
+            there in
             let (t, t_there, same) = in-map-out (λ t. combination s t f) line (filter (is_opposite f s) lines) from in
             let (s_in, lower) = in-filter-out (is_lower f) s lines s_there in
             let (t_in, opposite) = in-filter-out (is_opposite f s) t lines t_there in
-            let (upper, meet) = both_true _ _ opposite in
-            (s, t, record { first = s_in; second = t_in; allowed = opposite-allowed f s t (above_tells (factor s f) lower) (below_tells (factor t f) upper) meet }, same)
+            let (upper, meet) = both_true _ _ opposite in (
+              s,
+              t,
+              record {
+                first = s_in;
+                second = t_in;
+                allowed = opposite-allowed f s t (above_tells (factor s f) lower) (below_tells (factor t f) upper)
+                    meet;
+              },
+              same,
+            )
 
     -- a line of the step is a line without the field, or the combination of a pair
     pub from-eliminated : (line : LineParts) → IsIn line (eliminated lines f) → (IsIn line lines × (factor line f ≡ pos 0)) ⊎ IsMade lines f line
@@ -182,7 +207,8 @@ module _ (lines : List LineParts) (f : ℕ) where
     pub flat-all : All (λ line. factor line f ≡ pos 0) (eliminated lines f)
     flat-all = all-in (λ line. factor line f ≡ pos 0) (eliminated lines f) (λ line there. elim (from-eliminated line there) [
       | inl flat ↦ flat.1
-      | inr combined ↦ (let (s, t, pair, same) = combined in ap (λ (l : LineParts). factor l f) same ∙ combination-flat s t f (same_shape s t pair.first pair.second))
+      | inr combined ↦ (let (s, t, pair, same) = combined in ap (λ (l : LineParts). factor l f) same
+          ∙ combination-flat s t f (same_shape s t pair.first pair.second))
     ])
 
     -- ---- from the lines to the step
@@ -190,10 +216,12 @@ module _ (lines : List LineParts) (f : ℕ) where
     combination-holds : (s t : LineParts) (q : Point) → IsMadePair lines f s t → LineHolds s q → LineHolds t q → LineHolds (combination s t f) q
     combination-holds s t q pair s_holds t_holds =
         let is = combination-is s t f (same_shape s t pair.first pair.second) pair.allowed in
-        LineHolds-combined (first_multiplier s t f) (second_multiplier s t f) (combination_divisor s t f) s t (combination s t f) q is.m_keeps is.n_keeps is.g_above is.combined s_holds t_holds
+        LineHolds-combined (first_multiplier s t f) (second_multiplier s t f) (combination_divisor s t f) s t (combination s t f) q is.m_keeps is.n_keeps
+        is.g_above is.combined s_holds t_holds
 
     pub eliminated-holds : (p q : Point) → IsNumerical shape f → DiffersOnlyAt f p q → AllHold lines q → AllHold (eliminated lines f) p
-    eliminated-holds p q number differs holds = all-in (λ line. LineHolds line p) (eliminated lines f) (λ line there. at line there (from-eliminated line there))
+    eliminated-holds p q number differs holds =
+        all-in (λ line. LineHolds line p) (eliminated lines f) (λ line there. at line there (from-eliminated line there))
       where
         here : (line : LineParts) → IsIn line lines → LineHolds line q
         here line there = in-all (λ l. LineHolds l q) line lines holds there
@@ -205,7 +233,8 @@ module _ (lines : List LineParts) (f : ℕ) where
         at line there (inl flat) = on line (has line flat.0).same flat.1 (here line flat.0)
         at line there (inr combined) =
             let (s, t, pair, same) = combined in
-            on line (in-all (λ l. HasShape shape l) line (eliminated lines f) HaveShape-eliminated there).same (in-all (λ l. factor l f ≡ pos 0) line (eliminated lines f) flat-all there)
+            on line (in-all (λ l. HasShape shape l) line (eliminated lines f) HaveShape-eliminated there).same
+            (in-all (λ l. factor l f ≡ pos 0) line (eliminated lines f) flat-all there)
             (subst (λ (l : LineParts). LineHolds l q) (sym same) (combination-holds s t q pair (here s pair.first) (here t pair.second)))
 
     -- where the lines hold, the step's do
@@ -246,16 +275,20 @@ module _ (lines : List LineParts) (f : ℕ) where
         IsEnough_cancel relation _ n n_above (subst (λ (k : ℤ). IsEnough relation k) (ap (λ (k : ℤ). k *ℤ a) (comm w g ∙ sum) ∙ crossed m n a b x y z none)
         (IsEnough-times relation (w *ℤ g) a a_above (IsEnough-times relation w g g_above enough)))
 
-    pair_leaves : (p : Point) (s t : LineParts) → IsOppositePair lines f s t → is_equal s.relation ≡ false → is_equal t.relation ≡ false → AreCodesIn s.sets (codes_at s.shape p) → AreCodesIn t.sets (codes_at t.shape p) → LineHolds (combination s t f) p
+    pair_leaves : (p : Point) (s t : LineParts) → IsOppositePair lines f s t → is_equal s.relation ≡ false → is_equal t.relation ≡ false
+        → AreCodesIn s.sets (codes_at s.shape p) → AreCodesIn t.sets (codes_at t.shape p) → LineHolds (combination s t f) p
         → LeavesValue (λ l. factor l f) (λ l. rest_at l f p) (λ (l : LineParts). is_above l.relation) s t
     pair_leaves p s t pair s_apart t_apart s_inside t_inside holds =
         let same = same_shape s t pair.first pair.second in
         let is = combination-is s t f same (opposite-allowed f s t pair.above pair.below pair.meet) in
-        let inside : AreCodesIn (in_both s.sets t.sets) (codes_at s.shape p) = inside-meets s.sets t.sets (codes_at s.shape p) s_inside (subst (λ (d : List Domain). AreCodesIn t.sets (codes_at d p)) same t_inside) in
+        let inside : AreCodesIn (in_both s.sets t.sets) (codes_at s.shape p) = inside-meets s.sets t.sets (codes_at s.shape p) s_inside
+        (subst (λ (d : List Domain). AreCodesIn t.sets (codes_at d p)) same t_inside) in
         let in_line : AreCodesIn (combination s t f).sets (codes_at (combination s t f).shape p) =
-        subst (λ (d : List Domain). AreCodesIn (combination s t f).sets (codes_at d p)) (sym is.combined.shape) (subst (λ (sets : List ℕ). AreCodesIn sets (codes_at s.shape p)) (sym is.combined.sets) inside) in
+        subst (λ (d : List Domain). AreCodesIn (combination s t f).sets (codes_at d p)) (sym is.combined.shape)
+        (subst (λ (sets : List ℕ). AreCodesIn sets (codes_at s.shape p)) (sym is.combined.sets) inside) in
         subst (λ (r : Relation). IsEnough r (factor s f *ℤ rest_at t f p -ℤ factor t f *ℤ rest_at s f p)) (bounds_joined s.relation t.relation s_apart t_apart)
-        (leaves_from (first_multiplier s t f) (second_multiplier s t f) (combination_divisor s t f) (factor s f) (factor t f) (p.numerator f) (amount s p) (amount t p) (amount (combination s t f) p) (joined s.relation t.relation)
+        (leaves_from (first_multiplier s t f) (second_multiplier s t f) (combination_divisor s t f) (factor s f) (factor t f) (p.numerator f) (amount s p)
+        (amount t p) (amount (combination s t f) p) (joined s.relation t.relation)
         (second-above s t f (above_apart (factor s f) pair.above)) is.g_above pair.above
         (amount-combined (first_multiplier s t f) (second_multiplier s t f) (combination_divisor s t f) s t (combination s t f) p is.combined)
         (multipliers-cancel s t f)
@@ -266,7 +299,7 @@ module _ (lines : List LineParts) (f : ℕ) where
     no_part : (a v r x d : ℤ) → a ≡ pos 0 → r *ℤ d ≡ a *ℤ v +ℤ (r -ℤ a *ℤ x) *ℤ d
     no_part a v r x d e = rw (e, parts v, parts r, parts x, parts d) (simp ring (same_dif _ _ _ _ (omega arith)))
 
-    forced_value : (a r : ℤ) → a *ℤ turned_by a (neg_ℤ r) +ℤ r *ℤ turned_by a a ≡ pos 0
+    forced_value : (a r : ℤ) → a *ℤ with_sign_of a (neg_ℤ r) +ℤ r *ℤ with_sign_of a a ≡ pos 0
     forced_value a r = by (int_lt a (pos 0))
       where
         by : (b : Bool) → a *ℤ (if b then neg_ℤ (neg_ℤ r) else neg_ℤ r) +ℤ r *ℤ (if b then neg_ℤ a else a) ≡ pos 0
@@ -274,14 +307,17 @@ module _ (lines : List LineParts) (f : ℕ) where
         by false = rw (parts a, parts r) (simp ring (same_dif _ _ _ _ (omega arith)))
 
     -- what the combination of the equality and a line says of the line at that value
-    forced_enough : (m n g a b x y z w v d : ℤ) (relation : Relation) → pos 0 <ℤ n → pos 0 <ℤ g → pos 0 <ℤ d → g *ℤ w ≡ m *ℤ y +ℤ n *ℤ z → m *ℤ a +ℤ n *ℤ b ≡ pos 0
+    forced_enough : (m n g a b x y z w v d : ℤ) (relation : Relation) → pos 0 <ℤ n → pos 0 <ℤ g → pos 0 <ℤ d → g *ℤ w ≡ m *ℤ y +ℤ n *ℤ z
+        → m *ℤ a +ℤ n *ℤ b ≡ pos 0
         → a *ℤ v +ℤ (y -ℤ a *ℤ x) *ℤ d ≡ pos 0 → IsEnough relation w → IsEnough relation (b *ℤ v +ℤ (z -ℤ b *ℤ x) *ℤ d)
     forced_enough m n g a b x y z w v d relation n_above g_above d_above sum none zero enough =
         IsEnough_cancel relation _ n n_above (subst (λ (k : ℤ). IsEnough relation k) (ap (λ (k : ℤ). k *ℤ d) (comm w g ∙ sum) ∙ sym moved)
         (IsEnough-times relation (w *ℤ g) d d_above (IsEnough-times relation w g g_above enough)))
       where
-        opened : (m n a b x y z v d : ℤ) → (b *ℤ v +ℤ (z -ℤ b *ℤ x) *ℤ d) *ℤ n ≡ (m *ℤ y +ℤ n *ℤ z) *ℤ d -ℤ (a *ℤ v +ℤ (y -ℤ a *ℤ x) *ℤ d) *ℤ m +ℤ (m *ℤ a +ℤ n *ℤ b) *ℤ (v -ℤ x *ℤ d)
-        opened m n a b x y z v d = rw (parts m, parts n, parts a, parts b, parts x, parts y, parts z, parts v, parts d) (simp ring (same_dif _ _ _ _ (omega arith)))
+        opened : (m n a b x y z v d : ℤ) → (b *ℤ v +ℤ (z -ℤ b *ℤ x) *ℤ d) *ℤ n
+            ≡ (m *ℤ y +ℤ n *ℤ z) *ℤ d -ℤ (a *ℤ v +ℤ (y -ℤ a *ℤ x) *ℤ d) *ℤ m +ℤ (m *ℤ a +ℤ n *ℤ b) *ℤ (v -ℤ x *ℤ d)
+        opened m n a b x y z v d = rw (parts m, parts n, parts a, parts b, parts x, parts y, parts z, parts v, parts d)
+            (simp ring (same_dif _ _ _ _ (omega arith)))
 
         closed : (u m k : ℤ) → u -ℤ pos 0 *ℤ m +ℤ pos 0 *ℤ k ≡ u
         closed u m k = rw (parts u, parts m, parts k) (simp ring (same_dif _ _ _ _ (omega arith)))
@@ -296,10 +332,10 @@ module _ (lines : List LineParts) (f : ℕ) where
     module _ (p : Point) (e : LineParts) (found : find (determines f) lines ≡ Some e) (holds : AllHold (eliminated lines f) p) where
       -- the value v / d that the equality forces
       abbrev v : ℤ
-      v = turned_by (factor e f) (neg_ℤ (rest_at e f p))
+      v = with_sign_of (factor e f) (neg_ℤ (rest_at e f p))
 
       abbrev d : ℤ
-      d = turned_by (factor e f) (factor e f)
+      d = with_sign_of (factor e f) (factor e f)
 
       d_above : pos 0 <ℤ d
       d_above = turned-itself (factor e f) (determined e found).2
@@ -311,29 +347,37 @@ module _ (lines : List LineParts) (f : ℕ) where
           here : (l : LineParts) → IsIn l (eliminated lines f) → LineHolds l p
           here l l_there = in-all (λ l. LineHolds l p) l (eliminated lines f) holds l_there
 
-          substituted : AreCodesIn line.sets (codes_at line.shape p) → factor line f ≢ pos 0 → IsIn line (without_first (determines f) lines) → IsEnough line.relation (factor line f *ℤ v +ℤ rest_at line f p *ℤ d)
+          substituted : AreCodesIn line.sets (codes_at line.shape p) → factor line f ≢ pos 0 → IsIn line (without_first (determines f) lines)
+              → IsEnough line.relation (factor line f *ℤ v +ℤ rest_at line f p *ℤ d)
           substituted inside apart other =
               let (e_in, equal, e_apart) = determined e found in
               let same = same_shape e line e_in there in
               let is = combination-is e line f same (equality-allowed shape f e line (has e e_in) (has line there) equal e_apart apart) in
               let at_e : AreCodesIn line.sets (codes_at e.shape p) = subst (λ (sh : List Domain). AreCodesIn line.sets (codes_at sh p)) same inside in
-              let in_e : AreCodesIn e.sets (codes_at e.shape p) = subst (λ (ss : List ℕ). AreCodesIn ss (codes_at e.shape p)) (sym ((has e e_in).whole equal)) (whole-inside shape line.sets (codes_at e.shape p) (has line there).fit at_e) in
+              let in_e : AreCodesIn e.sets (codes_at e.shape p) = subst (λ (ss : List ℕ). AreCodesIn ss (codes_at e.shape p))
+              (sym ((has e e_in).whole equal)) (whole-inside shape line.sets (codes_at e.shape p) (has line there).fit at_e) in
               let in_line : AreCodesIn (combination e line f).sets (codes_at (combination e line f).shape p) =
               subst (λ (sh : List Domain). AreCodesIn (combination e line f).sets (codes_at sh p)) (sym is.combined.shape)
-              (subst (λ (ss : List ℕ). AreCodesIn ss (codes_at e.shape p)) (sym is.combined.sets) (inside-meets e.sets line.sets (codes_at e.shape p) in_e at_e)) in
+              (subst (λ (ss : List ℕ). AreCodesIn ss (codes_at e.shape p)) (sym is.combined.sets)
+              (inside-meets e.sets line.sets (codes_at e.shape p) in_e at_e)) in
               let relation : (combination e line f).relation ≡ line.relation = is.combined.relation ∙ ap (λ (r : Relation). joined r line.relation) equal in
-              forced_enough (first_multiplier e line f) (second_multiplier e line f) (combination_divisor e line f) (factor e f) (factor line f) (p.numerator f) (amount e p) (amount line p) (amount (combination e line f) p) v d line.relation
+              forced_enough (first_multiplier e line f) (second_multiplier e line f) (combination_divisor e line f) (factor e f) (factor line f)
+              (p.numerator f) (amount e p) (amount line p) (amount (combination e line f) p) v d line.relation
               (second-above e line f e_apart) is.g_above d_above
-              (amount-combined (first_multiplier e line f) (second_multiplier e line f) (combination_divisor e line f) e line (combination e line f) p is.combined)
+              (amount-combined (first_multiplier e line f) (second_multiplier e line f) (combination_divisor e line f) e line (combination e line f) p
+              is.combined)
               (multipliers-cancel e line f) (forced_value (factor e f) (rest_at e f p))
-              (subst (λ (r : Relation). IsEnough r (amount (combination e line f) p)) relation ((here (combination e line f) (substituted-eliminated e line found other apart)).enough in_line))
+              (subst (λ (r : Relation). IsEnough r (amount (combination e line f) p)) relation
+              ((here (combination e line f) (substituted-eliminated e line found other apart)).enough in_line))
 
           forced : line ≡ e → IsEnough line.relation (factor line f *ℤ v +ℤ rest_at line f p *ℤ d)
           forced is =
               subst (λ (l : LineParts). IsEnough l.relation (factor l f *ℤ v +ℤ rest_at l f p *ℤ d)) (sym is)
-              (subst (λ (r : Relation). IsEnough r (factor e f *ℤ v +ℤ rest_at e f p *ℤ d)) (sym (determined e found).1) (forced_value (factor e f) (rest_at e f p)))
+              (subst (λ (r : Relation). IsEnough r (factor e f *ℤ v +ℤ rest_at e f p *ℤ d)) (sym (determined e found).1)
+              (forced_value (factor e f) (rest_at e f p)))
 
-          by : AreCodesIn line.sets (codes_at line.shape p) → (b : Bool) → Decides b (factor line f ≡ pos 0) → IsEnough line.relation (factor line f *ℤ v +ℤ rest_at line f p *ℤ d)
+          by : AreCodesIn line.sets (codes_at line.shape p) → (b : Bool) → Decides b (factor line f ≡ pos 0)
+              → IsEnough line.relation (factor line f *ℤ v +ℤ rest_at line f p *ℤ d)
           by inside true is =
               subst (λ (k : ℤ). IsEnough line.relation k) (no_part (factor line f) v (amount line p) (p.numerator f) d (is.0 refl))
               (IsEnough-times line.relation (amount line p) d d_above ((here line (flat-eliminated line there (is.0 refl))).enough inside))
@@ -343,14 +387,27 @@ module _ (lines : List LineParts) (f : ℕ) where
           ]
 
       forced-lifts : (q : Point) × DiffersOnlyAt f p q × ((i : ℕ) → q.code i ≡ p.code i) × AllHold lines q
-      forced-lifts = (put p f (p.code f) v d d_above, put-differs p f (p.code f) v d d_above, put-code p f v d d_above, all-in (λ l. LineHolds l (put p f (p.code f) v d d_above)) lines forced-holds)
+      forced-lifts = (
+        put p f (p.code f) v d d_above,
+        put-differs p f (p.code f) v d d_above,
+        put-code p f v d d_above,
+        all-in
+            (λ l. LineHolds l (put p f (p.code f) v d d_above)) lines forced-holds,
+      )
 
     -- ---- without such an equality, the bounds leave a value
 
-    bounded-lifts : (p : Point) → find (determines f) lines ≡ None → AllHold (eliminated lines f) p → (q : Point) × DiffersOnlyAt f p q × ((i : ℕ) → q.code i ≡ p.code i) × AllHold lines q
+    bounded-lifts : (p : Point) → find (determines f) lines ≡ None → AllHold (eliminated lines f) p
+        → (q : Point) × DiffersOnlyAt f p q × ((i : ℕ) → q.code i ≡ p.code i) × AllHold lines q
     bounded-lifts p undecided holds =
-        let (v, d, low, high) = between (λ l. factor l f) (λ l. rest_at l f p) (λ (l : LineParts). is_above l.relation) (lower_bounds p) (upper_bounds p) rising falling leaves in
-        (put p f (p.code f) v d low.above, put-differs p f (p.code f) v d low.above, put-code p f v d low.above, all-in (λ l. LineHolds l (put p f (p.code f) v d low.above)) lines (λ line there. with_value line v d low high there))
+        let (v, d, low, high) = between (λ l. factor l f) (λ l. rest_at l f p) (λ (l : LineParts). is_above l.relation) (lower_bounds p) (upper_bounds p)
+        rising falling leaves in (
+          put p f (p.code f) v d low.above,
+          put-differs p f (p.code f) v d low.above,
+          put-code p f v d low.above,
+          all-in
+              (λ l. LineHolds l (put p f (p.code f) v d low.above)) lines (λ line there. with_value line v d low high there),
+        )
       where
         here : (line : LineParts) → IsIn line (eliminated lines f) → LineHolds line p
         here line there = in-all (λ l. LineHolds l p) line (eliminated lines f) holds there
@@ -373,7 +430,8 @@ module _ (lines : List LineParts) (f : ℕ) where
         falling : (t : LineParts) → IsIn t (upper_bounds p) → factor t f <ℤ pos 0
         falling t there = (upper_tells t there).1
 
-        leaves : (s t : LineParts) → IsIn s (lower_bounds p) → IsIn t (upper_bounds p) → LeavesValue (λ l. factor l f) (λ l. rest_at l f p) (λ (l : LineParts). is_above l.relation) s t
+        leaves : (s t : LineParts) → IsIn s (lower_bounds p) → IsIn t (upper_bounds p)
+            → LeavesValue (λ l. factor l f) (λ l. rest_at l f p) (λ (l : LineParts). is_above l.relation) s t
         leaves s t s_there t_there =
             let (s_in, above, s_inside) = lower_tells s s_there in
             let (t_in, below, t_inside) = upper_tells t t_there in
@@ -385,16 +443,19 @@ module _ (lines : List LineParts) (f : ℕ) where
               second = t_in;
               above = above;
               below = below;
-              meet = inside-all_meet s.sets t.sets (codes_at s.shape p) (omega (arith, sets)) s_inside (subst (λ (d : List Domain). AreCodesIn t.sets (codes_at d p)) same t_inside);
+              meet = inside-all_meet s.sets t.sets (codes_at s.shape p) (omega (arith, sets)) s_inside
+                  (subst (λ (d : List Domain). AreCodesIn t.sets (codes_at d p)) same t_inside);
             } in
-            pair_leaves p s t pair (undetermined s undecided s_in (above_apart (factor s f) above)) (undetermined t undecided t_in (below_apart (factor t f) below)) s_inside t_inside
+            pair_leaves p s t pair (undetermined s undecided s_in (above_apart (factor s f) above))
+            (undetermined t undecided t_in (below_apart (factor t f) below)) s_inside t_inside
             (here (combination s t f) (pair-eliminated undecided s t pair))
 
         both : (a b : Bool) → a ≡ true → b ≡ true → (a && b) ≡ true
         both a b e h = rw (e, h) refl
 
         -- a bound's relation is the line's
-        own : (line : LineParts) (z : ℤ) → IsIn line lines → factor line f ≢ pos 0 → IsEnough (bound_relation (is_above line.relation)) z → IsEnough line.relation z
+        own : (line : LineParts) (z : ℤ) → IsIn line lines → factor line f ≢ pos 0 → IsEnough (bound_relation (is_above line.relation)) z
+            → IsEnough line.relation z
         own line z there apart = subst (λ (r : Relation). IsEnough r z) (bound_is line.relation (undetermined line undecided there apart))
 
         with_value : (line : LineParts) (v d : ℤ)
@@ -403,16 +464,19 @@ module _ (lines : List LineParts) (f : ℕ) where
             → IsIn line lines → LineHolds line (put p f (p.code f) v d low.above)
         with_value line v d low high there = holds-put line p f v d low.above (λ inside. by inside (by_sign (factor line f)))
           where
-            by : AreCodesIn line.sets (codes_at line.shape p) → (pos 0 <ℤ factor line f) ⊎ ((factor line f ≡ pos 0) ⊎ (factor line f <ℤ pos 0)) → IsEnough line.relation (factor line f *ℤ v +ℤ rest_at line f p *ℤ d)
+            by : AreCodesIn line.sets (codes_at line.shape p) → (pos 0 <ℤ factor line f) ⊎ ((factor line f ≡ pos 0) ⊎ (factor line f <ℤ pos 0))
+                → IsEnough line.relation (factor line f *ℤ v +ℤ rest_at line f p *ℤ d)
             by inside (inl above) =
                 own line (factor line f *ℤ v +ℤ rest_at line f p *ℤ d) there (above_apart (factor line f) above)
-                (low.within line (in-filter (λ l. is_lower f l && are_codes_in l.sets (codes_at l.shape p)) line lines (both _ _ (above_told (factor line f) above) ((is_inside-Decides line.sets (codes_at line.shape p)).1 inside)) there))
+                (low.within line (in-filter (λ l. is_lower f l && are_codes_in l.sets (codes_at l.shape p)) line lines
+                (both _ _ (above_told (factor line f) above) ((is_inside-Decides line.sets (codes_at line.shape p)).1 inside)) there))
             by inside (inr (inl none)) =
                 subst (λ (k : ℤ). IsEnough line.relation k) (no_part (factor line f) v (amount line p) (p.numerator f) d none)
                 (IsEnough-times line.relation (amount line p) d low.above ((here line (flat-eliminated line there none)).enough inside))
             by inside (inr (inr below)) =
                 own line (factor line f *ℤ v +ℤ rest_at line f p *ℤ d) there (below_apart (factor line f) below)
-                (high.within line (in-filter (λ l. is_upper f l && are_codes_in l.sets (codes_at l.shape p)) line lines (both _ _ (below_told (factor line f) below) ((is_inside-Decides line.sets (codes_at line.shape p)).1 inside)) there))
+                (high.within line (in-filter (λ l. is_upper f l && are_codes_in l.sets (codes_at l.shape p)) line lines
+                (both _ _ (below_told (factor line f) below) ((is_inside-Decides line.sets (codes_at line.shape p)).1 inside)) there))
 
     -- where the step's lines hold, some value at the field makes the lines hold
     pub eliminated-lifts : (p : Point) → AllHold (eliminated lines f) p → (q : Point) × DiffersOnlyAt f p q × ((i : ℕ) → q.code i ≡ p.code i) × AllHold lines q
@@ -444,4 +508,5 @@ module _ (shape : List Domain) (lines : List LineParts) (f : ℕ) (over : HaveSh
   -- and where they hold, some value at the field makes the lines hold
   pub step-lifts : (p : Point) → AllHold (step lines f) p → (q : Point) × DiffersOnlyAt f p q × ((i : ℕ) → q.code i ≡ p.code i) × AllHold lines q
   step-lifts p holds =
-      eliminated-lifts lines f shape over p (holds-reduce shape (eliminated lines f) p (λ k d below. (HaveShape-eliminated lines f shape over k d below).same) holds)
+      eliminated-lifts lines f shape over p (holds-reduce shape (eliminated lines f) p
+      (λ k d below. (HaveShape-eliminated lines f shape over k d below).same) holds)

@@ -30,13 +30,15 @@ no_field i k d below = absurd (omega arith)
 -- a line at two points that differ at no field
 holds-nowhere : (p q : Point) (line : LineParts) → DiffersOnlyIn [] p q → LineHolds line q → LineHolds line p
 holds-nowhere p q line differs =
-    LineHolds-same line p q (map-agree q.code p.code (code_fields line.shape) (λ i there. differs.codes i (no_field i))) (λ i some. differs.numbers i (no_field i))
+    LineHolds-same line p q (map-agree q.code p.code (code_fields line.shape) (λ i there. differs.codes i (no_field i)))
+    (λ i some. differs.numbers i (no_field i))
 
 none_of : (f i : ℕ) (fields : List ℕ) → All (λ g. i ≢ g) (f ∷ fields) → (i ≢ f) × All (λ g. i ≢ g) fields
 none_of f i fields outside = (outside 0 f (omega arith), λ k d below. outside (suc k) d (omega arith))
 
 same_over : (x y z d e g : ℤ) → pos 0 <ℤ e → x *ℤ e ≡ y *ℤ g → y *ℤ d ≡ z *ℤ e → x *ℤ d ≡ z *ℤ g
-same_over x y z d e g above first second = same_cancel (x *ℤ d) (z *ℤ g) e above (swap_last x d e ∙ ap (λ (k : ℤ). k *ℤ d) first ∙ swap_last y g d ∙ ap (λ (k : ℤ). k *ℤ g) second ∙ swap_last z e g)
+same_over x y z d e g above first second =
+    same_cancel (x *ℤ d) (z *ℤ g) e above (swap_last x d e ∙ ap (λ (k : ℤ). k *ℤ d) first ∙ swap_last y g d ∙ ap (λ (k : ℤ). k *ℤ g) second ∙ swap_last z e g)
 
 -- first at the later fields, and then at one more
 differs_more : (f : ℕ) (fields : List ℕ) (p q r : Point) → DiffersOnlyIn fields p q → DiffersOnlyAt f q r → DiffersOnlyIn (f ∷ fields) p r
@@ -68,9 +70,11 @@ module _ (f : ℕ) (p q : Point) where
 
       number : (i : ℕ) → All (λ g. i ≢ g) fields → (b : Bool) → (i == f) ≡ b
           → (if b then p.numerator f *ℤ q.denominator else q.numerator i *ℤ p.denominator) *ℤ p.denominator ≡ p.numerator i *ℤ (q.denominator *ℤ p.denominator)
-      number i outside true e = assoc (p.numerator f) q.denominator p.denominator ∙ ap (λ j. p.numerator j *ℤ (q.denominator *ℤ p.denominator)) (sym ((Decides-eqb i f).0 e))
+      number i outside true e =
+          assoc (p.numerator f) q.denominator p.denominator ∙ ap (λ j. p.numerator j *ℤ (q.denominator *ℤ p.denominator)) (sym ((Decides-eqb i f).0 e))
       number i outside false e =
-          ap (λ (k : ℤ). k *ℤ p.denominator) (differs.numbers i (outside_all i (λ same. cc (sym e ∙ (Decides-eqb i f).1 same)) outside)) ∙ assoc (p.numerator i) q.denominator p.denominator
+          ap (λ (k : ℤ). k *ℤ p.denominator) (differs.numbers i (outside_all i (λ same. cc (sym e ∙ (Decides-eqb i f).1 same)) outside))
+          ∙ assoc (p.numerator i) q.denominator p.denominator
 
   -- and from q at the field alone
   differs-with_own : DiffersOnlyAt f (with_own f p q) q
@@ -95,14 +99,17 @@ module _ (shape : List Domain) where
 
   pub fold-holds : (lines : List LineParts) (fields : List ℕ) (p q : Point) → HaveShape shape lines → All (IsNumerical shape) fields
       → DiffersOnlyIn fields p q → AllHold lines q → AllHold (fold step lines fields) p
-  fold-holds lines [] p q over numbers differs holds = all-in (λ l. LineHolds l p) lines (λ line there. holds-nowhere p q line differs (in-all (λ l. LineHolds l q) line lines holds there))
+  fold-holds lines [] p q over numbers differs holds =
+      all-in (λ l. LineHolds l p) lines (λ line there. holds-nowhere p q line differs (in-all (λ l. LineHolds l q) line lines holds there))
   fold-holds lines (f ∷ fields) p q over numbers differs holds =
-      fold-holds (step lines f) fields p (with_own f p q) (HaveShape-step shape lines f over) (λ k d below. numbers (suc k) d (omega arith)) (with_own-differs f p q fields differs)
+      fold-holds (step lines f) fields p (with_own f p q) (HaveShape-step shape lines f over) (λ k d below. numbers (suc k) d (omega arith))
+      (with_own-differs f p q fields differs)
       (step-holds shape lines f over (with_own f p q) q (numbers 0 f (omega arith)) (differs-with_own f p q) holds)
 
   fold-follows : (lines : List LineParts) (fields : List ℕ) (p : Point) → HaveShape shape lines → AllHold lines p → AllHold (fold step lines fields) p
   fold-follows lines [] p over holds = holds
-  fold-follows lines (f ∷ fields) p over holds = fold-follows (step lines f) fields p (HaveShape-step shape lines f over) (step-follows shape lines f over p holds)
+  fold-follows lines (f ∷ fields) p over holds =
+      fold-follows (step lines f) fields p (HaveShape-step shape lines f over) (step-follows shape lines f over p holds)
 
   -- where the lines hold, the system's do
   pub system-follows : (lines : List LineParts) (fields : List ℕ) (p : Point) → HaveShape shape lines → AllHold lines p → AllHold (system lines fields) p
@@ -115,7 +122,8 @@ module _ (shape : List Domain) where
   -- they hold at a point where some values at the fields make the lines hold
   pub system-holds : (lines : List LineParts) (fields : List ℕ) (p q : Point) → HaveShape shape lines → All (IsNumerical shape) fields
       → DiffersOnlyIn fields p q → AllHold lines q → AllHold (system lines fields) p
-  system-holds lines fields p q over numbers differs holds = fold-holds (reduce lines) fields p q (HaveShape-reduce shape lines over) numbers differs (reduce-holds lines q holds)
+  system-holds lines fields p q over numbers differs holds =
+      fold-holds (reduce lines) fields p q (HaveShape-reduce shape lines over) numbers differs (reduce-holds lines q holds)
 
   -- and where they hold, some values at the fields make the lines hold
   pub system-lifts : (lines : List LineParts) (fields : List ℕ) (p : Point) → HaveShape shape lines
@@ -128,4 +136,6 @@ module _ (shape : List Domain) where
 
 -- the chosen fields are numerical
 pub chosen-numerical : (shape : List Domain) (bits : ℕ) → All (IsNumerical shape) (chosen_fields shape bits)
-chosen-numerical shape bits = all-in (IsNumerical shape) (chosen_fields shape bits) (λ i there. there-has i (number_fields shape) (in-filter-out (has_number bits) i (number_fields shape) there).0)
+chosen-numerical shape bits =
+    all-in (IsNumerical shape) (chosen_fields shape bits)
+    (λ i there. there-has i (number_fields shape) (in-filter-out (has_number bits) i (number_fields shape) there).0)

@@ -21,10 +21,15 @@ pub combination-taken : (s t : LineParts) (f : ℕ) → t.shape ≡ s.shape → 
 unfolding reduced
 combination-taken s t f same count pair fits =
     let sum = combination-is s t f same pair in
-    let (first, second) = products-beside 0 (first_multiplier s t f) (second_multiplier s t f) s.constant t.constant (number_fields s.shape) s.factors t.factors f count fits in
-    let own : InRange (second_multiplier s t f *ℤ factor t f) = subst (λ (d : List Domain). InRange (second_multiplier s t f *ℤ beside (pos 0) (number_fields d) t.factors f)) (sym same) second in
-    let m_may = keeps-may s.relation (first_multiplier s t f) pair.first_keeps (factor-ranged (first_multiplier s t f) (factor s f) pair.first_stands first) (first-apart s t f pair.second_stands) in
-    let n_may = keeps-may t.relation (second_multiplier s t f) pair.second_keeps (factor-ranged (second_multiplier s t f) (factor t f) pair.second_stands own) (above_stands (second_multiplier s t f) (second-above s t f pair.first_stands)) in
+    let (first, second) = products-beside 0 (first_multiplier s t f) (second_multiplier s t f) s.constant t.constant (number_fields s.shape) s.factors
+    t.factors f count fits in
+    let own : InRange (second_multiplier s t f *ℤ factor t f) =
+    subst (λ (d : List Domain). InRange (second_multiplier s t f *ℤ beside (pos 0) (number_fields d) t.factors f)) (sym same) second in
+    let m_may = keeps-may s.relation (first_multiplier s t f) pair.first_keeps
+    (factor-ranged (first_multiplier s t f) (factor s f) pair.first_stands first) (first-apart s t f pair.second_stands) in
+    let n_may = keeps-may t.relation (second_multiplier s t f) pair.second_keeps
+    (factor-ranged (second_multiplier s t f) (factor t f) pair.second_stands own)
+    (above_stands (second_multiplier s t f) (second-above s t f pair.first_stands)) in
     record {
       same = same;
       may = allowed-may _ _ _ s t m_may n_may sum.g_above pair.meet fits (divides-divisor (sum_of (first_multiplier s t f) (second_multiplier s t f) s t));

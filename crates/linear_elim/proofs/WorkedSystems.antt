@@ -28,7 +28,8 @@ trade_edits =
 
 -- without Costs: Turnover >= 0, 3 Turnover - 5 Profit >= 0, and Turnover - Profit >= 0 of the second and the third
 costs_eliminated : system_of trade_edits (1 ∷ [])
-    ≡ Ok (record { line = trade_line (pos 1) (pos 0) (pos 0); origin = Same 0 } ∷ record { line = trade_line (pos 3) (pos 0) (negsuc 4); origin = Same 4 } ∷ record { line = trade_line (pos 1) (pos 0) (negsuc 0); origin = Pair 1 (pos 1) 2 (pos 1) (pos 1) } ∷ [])
+    ≡ Ok (record { line = trade_line (pos 1) (pos 0) (pos 0); origin = Same 0 } ∷ record { line = trade_line (pos 3) (pos 0) (negsuc 4); origin = Same 4 }
+    ∷ record { line = trade_line (pos 1) (pos 0) (negsuc 0); origin = Pair 1 (pos 1) 2 (pos 1) (pos 1) } ∷ [])
 unfolding first_multiplier second_multiplier gcd reduced
 costs_eliminated = refl
 
@@ -57,7 +58,8 @@ balance_edits =
 
 -- without Costs: the balance is substituted into Costs >= 0
 costs_substituted : system_of balance_edits (1 ∷ [])
-    ≡ Ok (record { line = trade_line (pos 1) (pos 0) (pos 0); origin = Same 0 } ∷ record { line = trade_line (pos 3) (pos 0) (negsuc 4); origin = Same 3 } ∷ record { line = trade_line (pos 1) (pos 0) (negsuc 0); origin = Pair 2 (pos 1) 1 (pos 1) (pos 1) } ∷ [])
+    ≡ Ok (record { line = trade_line (pos 1) (pos 0) (pos 0); origin = Same 0 } ∷ record { line = trade_line (pos 3) (pos 0) (negsuc 4); origin = Same 3 }
+    ∷ record { line = trade_line (pos 1) (pos 0) (negsuc 0); origin = Pair 2 (pos 1) 1 (pos 1) (pos 1) } ∷ [])
 unfolding first_multiplier second_multiplier gcd reduced
 costs_substituted = refl
 
@@ -68,10 +70,13 @@ substituted_count_is = refl
 -- ---- A + B - 10 = 0 and A - B - 4 = 0
 
 abbrev pair_edits : List (ℕ × LineParts)
-pair_edits = (1, parts_of (Numerical ∷ Numerical ∷ []) [] (pos 1 ∷ pos 1 ∷ []) (negsuc 9) Equal) ∷ (2, parts_of (Numerical ∷ Numerical ∷ []) [] (pos 1 ∷ negsuc 0 ∷ []) (negsuc 3) Equal) ∷ []
+pair_edits =
+    (1, parts_of (Numerical ∷ Numerical ∷ []) [] (pos 1 ∷ pos 1 ∷ []) (negsuc 9) Equal)
+    ∷ (2, parts_of (Numerical ∷ Numerical ∷ []) [] (pos 1 ∷ negsuc 0 ∷ []) (negsuc 3) Equal) ∷ []
 
 -- without A: -B + 3 = 0
-pair_substituted : system_of pair_edits (0 ∷ []) ≡ Ok (record { line = parts_of (Numerical ∷ Numerical ∷ []) [] (pos 0 ∷ negsuc 0 ∷ []) (pos 3) Equal; origin = Pair 0 (negsuc 0) 1 (pos 1) (pos 2) } ∷ [])
+pair_substituted : system_of pair_edits (0 ∷ []) ≡ Ok
+    (record { line = parts_of (Numerical ∷ Numerical ∷ []) [] (pos 0 ∷ negsuc 0 ∷ []) (pos 3) Equal; origin = Pair 0 (negsuc 0) 1 (pos 1) (pos 2) } ∷ [])
 unfolding first_multiplier second_multiplier gcd reduced
 pair_substituted = refl
 
@@ -103,14 +108,17 @@ abbrev sign_edits : List (ℕ × LineParts)
 sign_edits = (1, parts_of (Numerical ∷ []) [] (pos 1 ∷ []) (pos 0) Above) ∷ (2, parts_of (Numerical ∷ []) [] (negsuc 0 ∷ []) (pos 0) AtLeast) ∷ []
 
 -- 0 > 0 is left, which never holds
-strictness_stays : system_of sign_edits (0 ∷ []) ≡ Ok (record { line = parts_of (Numerical ∷ []) [] (pos 0 ∷ []) (pos 0) Above; origin = Pair 0 (pos 1) 1 (pos 1) (pos 1) } ∷ [])
+strictness_stays : system_of sign_edits (0 ∷ []) ≡ Ok
+    (record { line = parts_of (Numerical ∷ []) [] (pos 0 ∷ []) (pos 0) Above; origin = Pair 0 (pos 1) 1 (pos 1) (pos 1) } ∷ [])
 unfolding first_multiplier second_multiplier gcd reduced
 strictness_stays = refl
 
 -- ---- IF C = 0 THEN A > 0, and IF C = 1 THEN -A >= 0
 
 abbrev disjoint_edits : List (ℕ × LineParts)
-disjoint_edits = (1, parts_of (Categorical 2 ∷ Numerical ∷ []) (1 ∷ []) (pos 1 ∷ []) (pos 0) Above) ∷ (2, parts_of (Categorical 2 ∷ Numerical ∷ []) (2 ∷ []) (negsuc 0 ∷ []) (pos 0) AtLeast) ∷ []
+disjoint_edits =
+    (1, parts_of (Categorical 2 ∷ Numerical ∷ []) (1 ∷ []) (pos 1 ∷ []) (pos 0) Above)
+    ∷ (2, parts_of (Categorical 2 ∷ Numerical ∷ []) (2 ∷ []) (negsuc 0 ∷ []) (pos 0) AtLeast) ∷ []
 
 -- nothing is left, since no code is in both sets
 disjoint_apart : system_of disjoint_edits (1 ∷ []) ≡ Ok []

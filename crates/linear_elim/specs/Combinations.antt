@@ -24,16 +24,16 @@ abbrev pub determines : ℕ → LineParts → Bool
 determines f line = is_equal line.relation && not (is_flat f line)
 
 -- a number, and its negative where the other is below 0
-abbrev pub turned_by : ℤ → ℤ → ℤ
-turned_by a z = if int_lt a (pos 0) then neg_ℤ z else z
+abbrev pub with_sign_of : ℤ → ℤ → ℤ
+with_sign_of a z = if int_lt a (pos 0) then neg_ℤ z else z
 
 -- with what s, in which the field stands, is multiplied so that the field goes from its sum with t
 unfoldable pub first_multiplier : LineParts → LineParts → ℕ → ℤ
-first_multiplier s t f = int_div (turned_by (factor s f) (neg_ℤ (factor t f))) (int_gcd (factor s f) (factor t f))
+first_multiplier s t f = int_div (with_sign_of (factor s f) (neg_ℤ (factor t f))) (int_gcd (factor s f) (factor t f))
 
 -- and with what t is multiplied, a number above 0
 unfoldable pub second_multiplier : LineParts → LineParts → ℕ → ℤ
-second_multiplier s t f = int_div (turned_by (factor s f) (factor s f)) (int_gcd (factor s f) (factor t f))
+second_multiplier s t f = int_div (with_sign_of (factor s f) (factor s f)) (int_gcd (factor s f) (factor t f))
 
 -- the combination of s and t in which the field is gone, its numbers divided by their greatest common divisor; an equality s is
 -- so substituted into t

@@ -1,4 +1,5 @@
-use Rattle.std.specs.Prelude.{◌≡◌, ℕ, ◌<◌, ◌==◌, ◌&&◌, Bool, true, false, List, ◌∷◌, ◌++◌, Option, Some, None, IfSome, Ok, get_or, length, pos, slice_get, ℤ}
+use Rattle.std.specs.Prelude.{◌≡◌, ℕ, ◌<◌, ◌==◌, ◌&&◌, Bool, true, false, List, ◌∷◌, ◌++◌, Option, Some, None, IfSome, Ok, get_or}
+use Rattle.std.specs.Prelude.{length, pos, slice_get, ℤ}
 use Rattle.edit_line.specs.Lines.{LineParts}
 use Rattle.edit_line.specs.EditSets.{EditsParts, base_lines}
 use Rattle.edit_line.specs.Reductions.{reduce_derived}

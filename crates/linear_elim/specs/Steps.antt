@@ -1,4 +1,5 @@
-use Rattle.std.specs.Prelude.{ℕ, suc, ◌+◌, ◌==◌, ◌&&◌, not, Bool, List, [], ◌∷◌, ◌++◌, All, Option, Some, None, Result, Ok, Err, length, map, if◌then◌else◌}
+use Rattle.std.specs.Prelude.{ℕ, suc, ◌+◌, ◌==◌, ◌&&◌, not, Bool, List, [], ◌∷◌, ◌++◌, All, Option, Some, None, Result, Ok, Err}
+use Rattle.std.specs.Prelude.{length, map, if◌then◌else◌}
 use Rattle.std.specs.List.{filter, find, flat_map}
 use Rattle.foundation.specs.Results.{◌>>=◌}
 use Rattle.edit_line.specs.Lines.{LineParts}

@@ -1,3 +1,5 @@
+//! One field as elimination looks at it: where its factor stands in the lines, and how a line bounds it.
+//! Below, a line's factors stand for the numerical fields, in declared order.
 ghost use Rattle.std.specs.Prelude.{◌≡◌, ◌≤◌, length, map};
 ghost use Rattle.fraction128.specs.Range.{InRange};
 ghost use Rattle.edit_line.specs.Lines.{factor};
@@ -18,7 +20,7 @@ pub(crate) struct Column {
 }
 
 impl Column {
-    /// The column of a field. No memory.
+    /// The column of a field of this shape. No memory.
     pub(crate) fn of(shape: Shape, field: u32) -> Column
         ensures shape { result.shape ≡ shape }
         ensures field { result.field ≡ field }
@@ -30,7 +32,7 @@ impl Column {
         }
     }
 
-    /// The line's factor at the field. No memory.
+    /// The line's factor at the field, 0 where that is not numerical. No memory.
     pub(crate) fn factor(&self, line: &Line) -> i128
         requires { line.now.shape ≡ domains self.now.shape }
         ensures value { result ≡ factor line.now self.now.field }
@@ -42,7 +44,7 @@ impl Column {
         }
     }
 
-    /// Whether the line bounds the field from below. No memory.
+    /// Whether the line bounds the field from below: its factor there is above 0. No memory.
     pub(crate) fn is_lower(&self, line: &Line) -> bool
         requires { line.now.shape ≡ domains self.now.shape }
         ensures { result ≡ is_lower self.now.field line.now }
@@ -50,7 +52,7 @@ impl Column {
         self.factor(line) > 0
     }
 
-    /// Whether the line bounds the field from above. No memory.
+    /// Whether the line bounds the field from above: its factor there is below 0. No memory.
     pub(crate) fn is_upper(&self, line: &Line) -> bool
         requires { line.now.shape ≡ domains self.now.shape }
         ensures { result ≡ is_upper self.now.field line.now }
@@ -58,7 +60,8 @@ impl Column {
         self.factor(line) < 0
     }
 
-    /// Whether the field does not stand in the line. No memory.
+    /// Whether the field does not stand in the line: its factor there is 0. Such a line needs no
+    /// elimination. No memory.
     pub(crate) fn is_flat(&self, line: &Line) -> bool
         requires { line.now.shape ≡ domains self.now.shape }
         ensures { result ≡ is_flat self.now.field line.now }
@@ -66,7 +69,8 @@ impl Column {
         self.factor(line) == 0
     }
 
-    /// Whether the line is an equality in which the field stands. No memory.
+    /// Whether the line is an equality in which the field stands, so that it tells the field's value by
+    /// those of the others. No memory.
     pub(crate) fn determines(&self, line: &Line) -> bool
         requires { line.now.shape ≡ domains self.now.shape }
         ensures { result ≡ determines self.now.field line.now }
@@ -74,7 +78,8 @@ impl Column {
         line.relation().is_equal() && !self.is_flat(line)
     }
 
-    /// The name of a place among a line's factors and its constant. No memory.
+    /// The name of a place among a line's factors and its constant: the field of the factor, or the
+    /// constant behind them. No memory.
     pub(crate) fn place_at(&self, place: usize) -> Place
         ensures { result ≡ place_named (number_fields (domains self.now.shape)) place }
     {
@@ -82,8 +87,8 @@ impl Column {
     }
 }
 
-// The name of a place among the factors at the numerical fields, of which each has 0 codes, and the
-// constant.
+// The name of a place among the factors and the constant behind them. Factors stand beside the numerical
+// fields, which are those whose count of codes is 0.
 fn place_at(counts: &[u8], place: usize) -> Place
     requires { length counts.now ≤ 64 }
     ensures { result ≡ place_named (number_fields (map domain_with counts.now)) place }
@@ -100,8 +105,8 @@ fn place_at(counts: &[u8], place: usize) -> Place
     Place::Constant
 }
 
-// The place of the field among the numerical ones, of which each has 0 codes; past them all where it is
-// none of them.
+// The place of the field among the numerical fields, which are those whose count of codes is 0; the number
+// of these where it is none of them.
 fn place_in(counts: &[u8], field: u32) -> usize
     requires { length counts.now ≤ 64 }
     ensures { result ≡ place_in (number_fields (map domain_with counts.now)) field }

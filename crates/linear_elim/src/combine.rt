@@ -1,10 +1,12 @@
+//! The combination of two lines in which a field stands, such that the field goes: the sum of multiples of
+//! both, divided by what divides its numbers.
 ghost use Rattle.std.specs.Prelude.{◌≡◌, ◌≢◌, int_div, neg_ℤ, pos, true, false};
 ghost use Rattle.fraction128.specs.Divisor.{int_gcd};
 ghost use Rattle.fraction128.specs.Range.{InRange};
 ghost use Rattle.edit_line.specs.Combinations.{all_meet};
 ghost use Rattle.edit_line.specs.Domains.{domains};
 ghost use Rattle.edit_line.specs.declared.derived.Origin.TheVariants.{Pair};
-ghost use Rattle.linear_elim.specs.Combinations.{combine_result, is_flat, turned_by};
+ghost use Rattle.linear_elim.specs.Combinations.{combine_result, is_flat, with_sign_of};
 ghost use Rattle.linear_elim.specs.inner.ToldCombinations.{told_combination};
 
 use crate::column::Column;
@@ -19,32 +21,34 @@ struct Multipliers {
 }
 
 impl Multipliers {
-    // Those of a line with the factor `a` and one with the factor `b`. The second is above 0. No memory.
+    // Those of a line with the factor `a` and one with the factor `b`, neither of which is 0. The second is
+    // above 0. The first is above 0 where the factors have opposite signs; else it is below 0, as only an
+    // equality may be multiplied. No memory.
     fn of(a: i128, b: i128) -> Multipliers
         requires first { a ≢ pos 0 }
         requires second { b ≢ pos 0 }
         requires a_in_range { InRange a }
         requires b_in_range { InRange b }
-        ensures first { result.first ≡ int_div (turned_by a (neg_ℤ b)) (int_gcd a b) }
-        ensures second { result.second ≡ int_div (turned_by a a) (int_gcd a b) }
+        ensures first { result.first ≡ int_div (with_sign_of a (neg_ℤ b)) (int_gcd a b) }
+        ensures second { result.second ≡ int_div (with_sign_of a a) (int_gcd a b) }
     {
         let divisor = common_divisor(a, b);
         Multipliers {
-            first: quotient(turned_by(a, negative(b)), divisor),
-            second: quotient(turned_by(a, a), divisor),
+            first: quotient(with_sign_of(a, negative(b)), divisor),
+            second: quotient(with_sign_of(a, a), divisor),
         }
     }
 }
 
-// The number, and its negative where the factor is below 0.
-fn turned_by(factor: i128, number: i128) -> i128
+// The number, or its negative where the factor is below 0, so that the second multiplier comes out above 0.
+fn with_sign_of(factor: i128, number: i128) -> i128
     requires { InRange number }
-    ensures { result ≡ turned_by factor number }
+    ensures { result ≡ with_sign_of factor number }
 {
     if factor < 0 { negative(number) } else { number }
 }
 
-// The negative of a number.
+// The negative of a number in range, which is in range too.
 fn negative(number: i128) -> i128
     requires { InRange number }
     ensures value { result ≡ neg_ℤ number }
@@ -53,7 +57,8 @@ fn negative(number: i128) -> i128
     -number
 }
 
-// The greatest common divisor of two factors. It is 1 where the first is 1 or the second is -1.
+// The greatest common divisor of two factors, which is 1 where the first is 1 or the second is -1. It is
+// not looked for then.
 fn common_divisor(a: i128, b: i128) -> i128
     requires a_in_range { InRange a }
     requires b_in_range { InRange b }
@@ -74,7 +79,8 @@ pub(crate) struct Scales {
 }
 
 impl Scales {
-    /// The origin of the combination of the lines at these places. No memory.
+    /// The origin of the combination of the lines at these places, in the list that the step took. No
+    /// memory.
     pub(crate) fn origin(self, first: u64, second: u64) -> Origin
         ensures { result ≡ Pair first self.m second self.n self.g }
     {
@@ -88,8 +94,10 @@ impl Scales {
     }
 }
 
-/// Makes the line the combination of `s` and `t`, in both of which the field stands, and which is without it;
-/// or answers the first place at which a number of it is out of range. No memory.
+/// Writes the combination of `s` and `t`, in both of which the column's field stands, into `line`, which
+/// is then without the field. The sets of both meet. The answer is what they were multiplied with and
+/// divided by. Or it is the first place, among the factors and then the constant, at which a number on the
+/// way is out of range. No memory.
 pub(crate) fn combine(line: &mut Line, column: &Column, s: &Line, t: &Line) -> Result<Scales, usize>
     requires over { line.old.shape ≡ domains column.now.shape }
     requires s_over { s.now.shape ≡ domains column.now.shape }

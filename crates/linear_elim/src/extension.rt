@@ -1,4 +1,9 @@
-//! A derived system with one field more.
+//! A derived system with one field more eliminated, from the system without it: what spares folding from
+//! the edits anew.
+//!
+//! In contracts, `Answers` says that a call gives the lines that the definition has, or tells its first
+//! overflow. `TellsOverflow` says that a fault is that overflow. `IsMade` says that a system's lines are
+//! those of the fold, with all that holds of them.
 ghost use Rattle.std.specs.Prelude.{◌≡◌, ◌+◌, ◌≤◌, IfErr, IfOk, OnOk, Ok};
 ghost use Rattle.edit_model.specs.FieldSets.{with_number};
 ghost use Rattle.edit_line.specs.Shapes.{IsNumerical};
@@ -19,9 +24,9 @@ use std::alloc::Global;
 use std::sync::Arc;
 use std::sync::ledger::Ledger;
 
-/// The derived system with one numerical field more, which is past all fields of the system: one step, from the lines of
-/// the system. It answers as the fold over all these fields does, and counts one step for each pair that this step
-/// combines.
+/// The derived system with one numerical field more, whose number is above those of the system's fields.
+/// It takes one step, from the lines of the system. It answers as [`crate::fold_system`] does for all
+/// these fields, and counts one step for each pair that this step combines.
 pub fn extend<L: Ledger>(
     alloc: Global,
     system: &System,
@@ -47,7 +52,7 @@ pub fn extend<L: Ledger>(
     }
 }
 
-// The system of the lines that the step at the field made.
+// The system with the field, of these lines, which the step at the field made.
 fn extended(system: &System, field: u32, lines: Vec<Derived>) -> Result<System, OutOfMemory>
     requires numerical { IsNumerical system.now.edits.shape field }
     requires lines { system_at system.now.edits (with_number system.now.fields field) ≡ Ok lines.items }

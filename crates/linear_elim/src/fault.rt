@@ -1,3 +1,6 @@
+//! Why an elimination has no answer: a number of a combination is out of range, or memory was refused. A
+//! fault of a step becomes one of the fold that takes the step. In contracts, `told_step` and
+//! `told_system` have the overflow that a fault tells, and nothing for want of memory.
 ghost use Rattle.std.specs.Prelude.{◌≡◌, option_map};
 ghost use Rattle.linear_elim.specs.Systems.{overflow_at};
 ghost use Rattle.linear_elim.specs.Told.{told_step, told_system};
@@ -27,6 +30,7 @@ impl fmt::Display for StepFault {
 
     ghost output = { λ fault. Some (step_text fault) };
 
+    // Writes what is printed of the fault, without a line feed. The numbers of an overflow are left out.
     fn fmt<W: fmt::Write>(&self, f: &mut fmt::Formatter<W>) -> fmt::Result {
         f.write_str(match self {
             StepFault::Overflow { .. } => "a number of a combination is out of range",
@@ -58,6 +62,7 @@ impl fmt::Display for SystemFault {
 
     ghost output = { λ fault. Some (system_text fault) };
 
+    // Writes what is printed of the fault, without a line feed. The numbers of an overflow are left out.
     fn fmt<W: fmt::Write>(&self, f: &mut fmt::Formatter<W>) -> fmt::Result {
         f.write_str(match self {
             SystemFault::Overflow { .. } => "a number of a combination is out of range",
@@ -74,6 +79,7 @@ impl From<OutOfMemory> for StepFault {
 
     ghost from_gives = { λ _ fault. fault ≡ faults.OutOfMemory };
 
+    // Memory that is refused is one of the faults.
     fn from(_refused: OutOfMemory) -> Self {
         StepFault::OutOfMemory
     }
@@ -85,6 +91,7 @@ impl From<OutOfMemory> for SystemFault {
 
     ghost from_gives = { λ _ fault. fault ≡ faults.OutOfMemory };
 
+    // Memory that is refused is one of the faults.
     fn from(_refused: OutOfMemory) -> Self {
         SystemFault::OutOfMemory
     }
@@ -96,12 +103,13 @@ impl<T: Drop> From<AllocFailed<T>> for StepFault {
 
     ghost from_gives = { λ _ fault. fault ≡ faults.OutOfMemory };
 
+    // Memory that is refused is one of the faults. What found no room is dropped.
     fn from(_refused: AllocFailed<T>) -> Self {
         StepFault::OutOfMemory
     }
 }
 
-/// The fault of the fold that stops at this field.
+/// The fault of a fold that stops at the step of this field: the step's fault, with the field named.
 pub(crate) fn at_field(fault: StepFault, field: u32) -> SystemFault
     ensures { told_system result ≡ option_map (overflow_at field) (told_step fault) }
 {

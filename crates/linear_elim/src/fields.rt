@@ -1,3 +1,4 @@
+//! The last of a set of fields: what the fold over the set eliminates last.
 ghost use Rattle.std.specs.Prelude.{◌≡◌, ◌<◌, IfNone, IfSome};
 ghost use Rattle.linear_elim.specs.LastFields.{IsLast};
 ghost use Rattle.linear_elim.specs.Systems.{AreNumerical};
@@ -5,7 +6,8 @@ ghost use Rattle.linear_elim.specs.Systems.{AreNumerical};
 use edit_line::Edits;
 use edit_model::FieldSet;
 
-/// The last field of the set, whose fields are numerical ones of the edits; none where it has no field. No memory.
+/// The field of the set with the greatest number, None where the set is empty. The fields are numerical
+/// ones of the edits, whose shape says how many fields there are. No memory.
 pub fn last_field(edits: &Edits, fields: FieldSet) -> Option<u32>
     requires { AreNumerical edits.now.shape fields }
     ensures some { IfSome result (λ field. IsLast fields field) }
@@ -13,7 +15,7 @@ pub fn last_field(edits: &Edits, fields: FieldSet) -> Option<u32>
     ensures none { IfNone result (fields ≡ 0) }
 {
     let shape = edits.shape();
-    let count = shape.code_counts().len() as u32;
+    let count = shape.code_counts().len() as u32; // one for each field, also a numerical one
     let mut last = None;
     for field in 0..count {
         if fields.has(field) {

@@ -1,3 +1,8 @@
+//! The derived system of a set of fields, by one step after the other from the reduced edits.
+//!
+//! In contracts, `Answers` says that a call gives the lines that the definition has, or tells its first
+//! overflow; memory may always be refused. `IsMade` says that a system's lines are those of the fold, with
+//! all that holds of them. `fold_count` and `pairs_at` are the pairs of lines that a fold combines.
 ghost use Rattle.std.specs.Prelude.{◌≡◌, ◌+◌, ◌≤◌, ◌<◌, IfOk, OnOk, IfErr};
 ghost use Rattle.std.specs.Arc.{arc_value};
 ghost use Rattle.edit_line.specs.Reductions.{AreOwn, lines_of};
@@ -19,8 +24,16 @@ use std::alloc::Global;
 use std::sync::Arc;
 use std::sync::ledger::Ledger;
 
-/// The derived system of the edits without the fields, which are all numerical: the fold of the step over
-/// them in declared order, from the reduced edits. One step is counted for each pair that is combined. It
+/// A field of a survey's shape: its number, and how many codes it has, 0 where it is numerical.
+#[derive(Clone, Copy)]
+struct ShapeField {
+    number: u32,
+    codes: u8,
+}
+
+/// The derived system of the edits without the fields, which are all numerical. It is the fold of the step
+/// over them in declared order, from the reduced edits. At a point its lines hold exactly where some
+/// values at these fields make the edits hold. One step is counted for each pair that is combined. It
 /// overflows where a step does, with the field of that step.
 pub fn fold_system<L: Ledger>(
     alloc: Global,
@@ -39,20 +52,19 @@ pub fn fold_system<L: Ledger>(
     ensures few { steps.new ≤ steps.old + pairs_at (arc_value edits.now) fields }
     ensures counts { steps.old ≤ steps.new }
 {
-    match fold_lines(alloc, edits, fields, steps) {
-        Ok(lines) => Ok(System::of(share(edits)?, fields, lines)),
-        Err(fault) => Err(fault),
-    }
+    let lines = fold_lines(alloc, edits, fields, steps)?;
+    Ok(System::of(share(edits)?, fields, lines))
 }
 
-// The same edits, owned once more.
+// One owner more of the same edits, for the system.
 fn share(edits: &Arc<Edits>) -> Result<Arc<Edits>, OutOfMemory>
     ensures { IfOk result (λ other. arc_value other ≡ arc_value edits.now) }
 {
     Ok(Arc::try_clone(edits)?)
 }
 
-// The lines of the system.
+// The lines of the derived system, or the first overflow. Each field of the survey is looked at in declared
+// order, and those of the set are eliminated. The system of no field is a copy of the reduced edits.
 fn fold_lines<L: Ledger>(
     alloc: Global,
     edits: &Edits,
@@ -70,10 +82,11 @@ fn fold_lines<L: Ledger>(
     let base = edits.reduced();
     let mut lines = None;
     for (field, count) in shape.code_counts().iter().enumerate() {
-        lines = match next_lines(alloc, base, lines, *count, field as u32, fields, steps) {
-            Ok(next) => next,
-            Err(fault) => return Err(fault),
+        let next = ShapeField {
+            number: field as u32,
+            codes: *count,
         };
+        lines = next_lines(alloc, base, lines, next, fields, steps)?;
     }
     match lines {
         Some(lines) => Ok(lines),
@@ -81,7 +94,8 @@ fn fold_lines<L: Ledger>(
     }
 }
 
-// The lines of the fold so far: those that it begins with, until a step has made others.
+// The lines of the fold so far: those of the last step, or those that the fold begins with, `base`, where
+// no step was taken yet.
 fn so_far<'a>(base: &'a [Derived], lines: &'a Option<Vec<Derived>>) -> &'a [Derived]
     ensures { result.now ≡ so_far base.now lines.now }
 {
@@ -91,7 +105,7 @@ fn so_far<'a>(base: &'a [Derived], lines: &'a Option<Vec<Derived>>) -> &'a [Deri
     }
 }
 
-// Equal lines.
+// Equal lines, for a fold over no field.
 fn copy_all(alloc: Global, lines: &[Derived]) -> Result<Vec<Derived>, OutOfMemory>
     ensures { IfOk result (λ v. v.items ≡ lines.now) }
 {
@@ -102,32 +116,31 @@ fn copy_all(alloc: Global, lines: &[Derived]) -> Result<Vec<Derived>, OutOfMemor
     Ok(copies)
 }
 
-// The lines after the field, which has this number of codes: if it is numerical and in the set, those of the
-// step at it. None stands for the lines that the fold begins with, which are not copied.
+// The lines after the field: if it is numerical and in the set, those of the step at it. None stands for the
+// lines that the fold begins with, which are not copied.
 fn next_lines<L: Ledger>(
     alloc: Global,
     base: &[Derived],
     lines: Option<Vec<Derived>>,
-    count: u8,
-    field: u32,
+    field: ShapeField,
     fields: FieldSet,
     steps: &mut Steps<L>,
 ) -> Result<Option<Vec<Derived>>, SystemFault>
     requires shape { OneShape (so_far base.now lines) }
     requires own { AreOwn (lines_of (so_far base.now lines)) }
-    requires field { field < 64 }
+    requires field { field.number < 64 }
     ensures exact { Answers (λ next. so_far base.now next) told_system result
-        (fold_result (so_far base.now lines) (next_fields fields field count)) }
+        (fold_result (so_far base.now lines) (next_fields fields field.number field.codes)) }
     ensures counted { OnOk result (steps.new
-        ≡ steps.old + fold_count (so_far base.now lines) (next_fields fields field count)) }
-    ensures few { steps.new ≤ steps.old + fold_count (so_far base.now lines) (next_fields fields field count) }
+        ≡ steps.old + fold_count (so_far base.now lines) (next_fields fields field.number field.codes)) }
+    ensures few { steps.new ≤ steps.old + fold_count (so_far base.now lines) (next_fields fields field.number field.codes) }
     ensures counts { steps.old ≤ steps.new }
 {
-    if count > 0 || !fields.has(field) {
+    if field.codes > 0 || !fields.has(field.number) {
         return Ok(lines);
     }
-    match reduced_step(alloc, so_far(base, &lines), field, steps) {
+    match reduced_step(alloc, so_far(base, &lines), field.number, steps) {
         Ok(next) => Ok(Some(next)),
-        Err(fault) => Err(at_field(fault, field)),
+        Err(fault) => Err(at_field(fault, field.number)),
     }
 }

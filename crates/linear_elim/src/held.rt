@@ -1,3 +1,4 @@
+//! What a source of systems answers: a system that it shares, or one for the caller alone.
 ghost use Rattle.std.specs.Prelude.{◌≡◌};
 ghost use Rattle.linear_elim.specs.Helds.{system_held};
 

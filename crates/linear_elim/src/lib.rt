@@ -1,9 +1,9 @@
 //! Elimination of numerical fields from linear edits, by equalities or by Fourier and Motzkin: [`step`]
-//! eliminates one field, [`fold_system`] a set of them. The definitions are in `specs/Steps.antt`, `specs/Systems.antt`
-//! and `specs/Origins.antt`. The contracts say exactly which lines come out, or which number first leaves
-//! the range; that the lines that come out hold at a point exactly where some values at the eliminated
-//! fields make the given lines hold; that the eliminated fields stand in none of them; and that each comes
-//! from the lines that its origin names.
+//! eliminates one field, [`fold_system`] a set of them. The definitions are in `specs/Steps.antt`,
+//! `specs/Systems.antt` and `specs/Origins.antt`. The contracts say exactly which lines come out, or which
+//! number first leaves the range; that the lines that come out hold at a point exactly where some values at
+//! the eliminated fields make the given lines hold; that the eliminated fields stand in none of them; and
+//! that each comes from the lines that its origin names.
 #![tactic(auto)]
 
 mod column;
@@ -15,6 +15,7 @@ mod fields;
 mod fold;
 mod held;
 mod pair_count;
+mod step_lines;
 mod substitution;
 mod system;
 mod systems;

@@ -1,37 +1,40 @@
-//! Substitution of an equality into the other lines in which a field stands.
-ghost use Rattle.std.specs.Prelude.{◌≡◌, ◌+◌, ◌≤◌, All, IfNone, IfSome, IsSomeAnd, None, OnOk, Some, if◌then◌else◌, true};
+//! Substitution of an equality into the other lines in which a field stands. In contracts, `equality_from`
+//! has the first equality with the field and its place. `TakesIn` says that what is made is taken in among
+//! the kept lines.
+ghost use Rattle.std.specs.Prelude.{◌≡◌, ◌+◌, ◌≤◌, IfNone, IfSome, IsSomeAnd, None, OnOk, Some, if◌then◌else◌, true};
 ghost use Rattle.std.specs.List.{slice_get};
 ghost use Rattle.edit_line.specs.Domains.{domains};
 ghost use Rattle.linear_elim.specs.Combinations.{determines};
-ghost use Rattle.linear_elim.specs.Steps.{collect, equality_from, made_result, pairs_count, substituted_count, substituted_result, substitutes};
+ghost use Rattle.linear_elim.specs.Steps.{collect, equality_from, made_result, pairs_count, substituted_count, substitutes};
 ghost use Rattle.linear_elim.specs.Told.{told_step};
 ghost use Rattle.linear_elim.specs.inner.Taken.{TakesIn};
 ghost use Rattle.linear_elim.specs.inner.Uppers.{substituted_with};
 
 use crate::column::Column;
-use crate::elimination::{Placed, take_combination};
+use crate::elimination::{Placed, Work, take_combination};
 use crate::fault::StepFault;
-use edit_line::{Derived, Kept, Line};
+use crate::step_lines::StepLines;
+use edit_line::Line;
 use foundation::Steps;
 use std::alloc::Global;
 use std::sync::ledger::Ledger;
 
-/// The place of the first equality in which the field stands. No memory.
-pub(crate) fn first_equality(column: &Column, lines: &[Derived]) -> Option<usize>
-    requires { All (λ s. s.line.shape ≡ domains column.now.shape) lines.now }
-    ensures some { IfSome result (λ i. IsSomeAnd (slice_get lines.now i) (λ e. equality_from column.now.field 0 lines.now ≡ Some (i, e))) }
-    ensures none { IfNone result (equality_from column.now.field 0 lines.now ≡ None) }
+/// The place of the first equality in which the field stands, from 0; None where there is none. No memory.
+pub(crate) fn first_equality(given: &StepLines) -> Option<usize>
+    ensures some { IfSome result (λ i. IsSomeAnd (slice_get given.now.lines.now i) (λ e.
+        equality_from given.now.column.field 0 given.now.lines.now ≡ Some (i, e))) }
+    ensures none { IfNone result (equality_from given.now.column.field 0 given.now.lines.now ≡ None) }
 {
-    for (place, derived) in lines.iter().enumerate() {
-        if column.determines(&derived.line) {
+    for (place, derived) in given.lines.iter().enumerate() {
+        if given.column.determines(&derived.line) {
             return Some(place);
         }
     }
     None
 }
 
-/// Whether the equality at one place is substituted into the line at another: it is another line, and the
-/// field stands in it. No memory.
+/// Whether the equality at the place `equality` is substituted into the line `t` at `place`: it is another
+/// line, and the field stands in it. No memory.
 pub(crate) fn is_substituted(column: &Column, equality: usize, place: usize, t: &Line) -> bool
     requires { t.now.shape ≡ domains column.now.shape }
     ensures { result ≡ substitutes column.now.field equality place t.now }
@@ -40,82 +43,74 @@ pub(crate) fn is_substituted(column: &Column, equality: usize, place: usize, t: 
 }
 
 /// Takes in the substitutions of the first equality with the field, which stands at the place, into each
-/// other line that has it. Each is written into the one line, and one step is counted for it.
+/// other line that has it. Each is written into the line of the work, and one step is counted for it.
 pub(crate) fn take_substitutions<L: Ledger>(
     alloc: Global,
-    column: &Column,
-    lines: &[Derived],
+    given: &StepLines,
     place: usize,
-    line: &mut Line,
-    kept: &mut Kept,
+    work: &mut Work,
     steps: &mut Steps<L>,
 ) -> Result<(), StepFault>
-    requires over { All (λ t. t.line.shape ≡ domains column.now.shape) lines.now }
-    requires first { IsSomeAnd (slice_get lines.now place) (λ e. equality_from column.now.field 0 lines.now ≡ Some (place, e)) }
-    requires line_over { line.old.shape ≡ domains column.now.shape }
-    ensures exact { TakesIn told_step kept.old kept.new result (made_result lines.now column.now.field) }
-    ensures counted { OnOk result (steps.new ≡ steps.old + pairs_count lines.now column.now.field) }
-    ensures few { steps.new ≤ steps.old + pairs_count lines.now column.now.field }
+    requires first { IsSomeAnd (slice_get given.now.lines.now place) (λ e.
+        equality_from given.now.column.field 0 given.now.lines.now ≡ Some (place, e)) }
+    requires work_over { work.old.line.shape ≡ domains given.now.column.shape }
+    ensures exact { TakesIn told_step work.old.kept work.new.kept result (made_result given.now.lines.now given.now.column.field) }
+    ensures counted { OnOk result (steps.new ≡ steps.old + pairs_count given.now.lines.now given.now.column.field) }
+    ensures few { steps.new ≤ steps.old + pairs_count given.now.lines.now given.now.column.field }
     ensures counts { steps.old ≤ steps.new }
 {
-    match lines.get(place) {
+    match given.lines.get(place) {
         None => Ok(()),
         Some(derived) => {
             let e = Placed { place, derived };
-            take_each(alloc, column, lines, e, line, kept, steps)
+            take_each(alloc, given, e, work, steps)
         }
     }
 }
 
-// Takes in the substitutions of the equality into each other line with the field.
+// Takes in the substitutions of the equality `e` into each other line with the field.
 fn take_each<L: Ledger>(
     alloc: Global,
-    column: &Column,
-    lines: &[Derived],
+    given: &StepLines,
     e: Placed,
-    line: &mut Line,
-    kept: &mut Kept,
+    work: &mut Work,
     steps: &mut Steps<L>,
 ) -> Result<(), StepFault>
-    requires equality { determines column.now.field e.derived.now.line ≡ true }
-    requires e_over { e.derived.now.line.shape ≡ domains column.now.shape }
-    requires over { All (λ t. t.line.shape ≡ domains column.now.shape) lines.now }
-    requires line_over { line.old.shape ≡ domains column.now.shape }
-    ensures exact { TakesIn told_step kept.old kept.new result (collect (substituted_with column.now.field e.entry) 0 lines.now) }
-    ensures counted { OnOk result (steps.new ≡ steps.old + substituted_count column.now.field e.entry.place 0 lines.now) }
-    ensures few { steps.new ≤ steps.old + substituted_count column.now.field e.entry.place 0 lines.now }
+    requires equality { determines given.now.column.field e.derived.now.line ≡ true }
+    requires e_over { e.derived.now.line.shape ≡ domains given.now.column.shape }
+    requires work_over { work.old.line.shape ≡ domains given.now.column.shape }
+    ensures exact { TakesIn told_step work.old.kept work.new.kept result
+        (collect (substituted_with given.now.column.field e.entry) 0 given.now.lines.now) }
+    ensures counted { OnOk result (steps.new ≡ steps.old + substituted_count given.now.column.field e.entry.place 0 given.now.lines.now) }
+    ensures few { steps.new ≤ steps.old + substituted_count given.now.column.field e.entry.place 0 given.now.lines.now }
     ensures counts { steps.old ≤ steps.new }
 {
-    for (place, derived) in lines.iter().enumerate() {
+    for (place, derived) in given.lines.iter().enumerate() {
         let t = Placed { place, derived };
-        match take_substitution(alloc, column, e, t, line, kept, steps) {
-            Ok(()) => {}
-            Err(fault) => return Err(fault),
-        }
+        take_substitution(alloc, &given.column, e, t, work, steps)?;
     }
     Ok(())
 }
 
-// Takes in the substitution of the equality into the line, if it is another with the field; and then counts
-// one step.
+// Takes in the substitution of the equality `e` into the line `t`, if that is another line with the field.
+// Only then one step is counted.
 fn take_substitution<L: Ledger>(
     alloc: Global,
     column: &Column,
     e: Placed,
     t: Placed,
-    line: &mut Line,
-    kept: &mut Kept,
+    work: &mut Work,
     steps: &mut Steps<L>,
 ) -> Result<(), StepFault>
     requires equality { determines column.now.field e.derived.now.line ≡ true }
     requires e_over { e.derived.now.line.shape ≡ domains column.now.shape }
     requires t_over { t.derived.now.line.shape ≡ domains column.now.shape }
-    requires line_over { line.old.shape ≡ domains column.now.shape }
-    ensures exact { TakesIn told_step kept.old kept.new result
+    requires work_over { work.old.line.shape ≡ domains column.now.shape }
+    ensures exact { TakesIn told_step work.old.kept work.new.kept result
         (substituted_with column.now.field e.entry t.entry.place t.entry.derived.now) }
     ensures counted { steps.new
         ≡ steps.old + (if substitutes column.now.field e.entry.place t.entry.place t.entry.derived.now.line then 1 else 0) }
-    ensures over { line.new.shape ≡ line.old.shape }
+    ensures over { work.new.line.shape ≡ work.old.line.shape }
 {
     if !is_substituted(column, e.place, t.place, &t.derived.line) {
         return Ok(());
@@ -123,5 +118,5 @@ fn take_substitution<L: Ledger>(
     steps.tick();
     let _whole = e.derived.line.sets(); // read for what it says
     let _fit = t.derived.line.sets(); // read for what it says
-    take_combination(alloc, column, e, t, line, kept)
+    take_combination(alloc, column, e, t, work)
 }

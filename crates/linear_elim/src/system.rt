@@ -1,3 +1,6 @@
+//! The derived system: what is left of edits without some numerical fields. That its lines are those of
+//! the fold is part of its type. In contracts, `IsMade` says this, and that each line comes from what its
+//! origin names; `Lifts` says what the lines mean.
 ghost use Rattle.std.specs.Prelude.{◌≡◌};
 ghost use Rattle.std.specs.Arc.{arc_value};
 ghost use Rattle.edit_model.specs.FieldSets.{with_number};
@@ -33,7 +36,8 @@ impl Model for System {
 }
 
 impl System {
-    /// The system of these edits, fields and lines. No memory.
+    /// The system of these edits and fields, whose lines the caller knows to be those of the fold. No
+    /// memory.
     pub(crate) fn of(edits: Arc<Edits>, fields: FieldSet, lines: Vec<Derived>) -> System
         requires { IsMade (parts_of_system (arc_value edits) fields lines.items) }
         ensures { result ≡ parts_of_system (arc_value edits) fields lines.items }
@@ -59,7 +63,7 @@ impl System {
         self.fields
     }
 
-    /// The fields that were eliminated, and one numerical field more. No memory.
+    /// The fields that were eliminated, and this numerical field beside them. No memory.
     pub fn fields_with(&self, field: u32) -> FieldSet
         requires { IsNumerical self.now.edits.shape field }
         ensures { result ≡ with_number self.now.fields field }
@@ -69,8 +73,9 @@ impl System {
         self.fields.with(field)
     }
 
-    /// The lines, in order, with their origins in the lines that the last step took, which are those of the
-    /// system of the fields before the last; in the edits where no field was eliminated. No memory.
+    /// The lines, in order. At a point they all hold exactly where some values at the eliminated fields
+    /// make the edits hold. The origin of each names lines that the last step took, those of the system
+    /// without the last field. Where no field was eliminated, it names edits. No memory.
     pub fn lines(&self) -> &[Derived]
         ensures lines { result.now ≡ self.now.lines }
         ensures system { IsSystem self.now }

@@ -1,3 +1,9 @@
+//! Sources of derived systems, as the search asks for them: a source may keep systems and share them, and
+//! `Recompute` keeps none.
+//!
+//! In contracts, `Answers` says that a call gives the lines that the definition has, or tells its first
+//! overflow. `serves` has the edits whose systems a source gives, and `keeps` the sets of fields whose
+//! systems it keeps. What a source serves or keeps it goes on serving or keeping.
 ghost use Rattle.std.specs.Prelude.{◌≡◌, ◌+◌, ◌≤◌, ℕ, Bool, true, IfOk, OnOk};
 ghost use Rattle.std.specs.Arc.{arc_value};
 ghost use Rattle.edit_model.specs.FieldSets.{with_number};
@@ -28,7 +34,8 @@ pub trait Systems {
     /// The edits whose systems it gives.
     ghost serves: { Self → EditsParts → Type 0 };
 
-    /// The sets of numerical fields, as bits, whose systems it keeps.
+    /// The sets of numerical fields, as bits, whose systems it keeps, so that they are not folded again.
+    /// For one that keeps none, as [`Recompute`], these may be all sets.
     ghost keeps: { Self → ℕ → Bool };
 
     /// The system of the edits without the fields, which are all numerical, or the overflow at which its
@@ -51,8 +58,9 @@ pub trait Systems {
         ensures keeps { (f : ℕ) → keeps self.old f ≡ true → keeps self.new f ≡ true }
         ensures kept { OnOk result (keeps self.new fields ≡ true) };
 
-    /// The system with one numerical field more than `before`, which is past all fields of that: what `system` answers
-    /// for all these fields. At most one step is counted for each pair that the step from `before` combines.
+    /// The system with one numerical field more than `before`, whose number is above those of all its
+    /// fields. It is what `system` answers for all these fields. At most one step is counted for each pair
+    /// that the step from `before` combines.
     fn system_after<L: Ledger>(
         &mut self,
         alloc: Global,
@@ -85,6 +93,7 @@ impl Systems for Recompute {
 
     ghost keeps = { λ _ _. true };
 
+    // The fold over the fields, from the reduced edits; the system is the caller's own.
     fn system<L: Ledger>(
         &mut self,
         alloc: Global,
@@ -100,12 +109,10 @@ impl Systems for Recompute {
         ensures few { steps.new ≤ steps.old + pairs_at (arc_value edits.now) fields }
         ensures counts { steps.old ≤ steps.new }
     {
-        match fold_system(alloc, edits, fields, steps) {
-            Ok(system) => Ok(Held::Own(system)),
-            Err(fault) => Err(fault),
-        }
+        Ok(Held::Own(fold_system(alloc, edits, fields, steps)?))
     }
 
+    // The step at the field, from the system before; the system is the caller's own.
     fn system_after<L: Ledger>(
         &mut self,
         alloc: Global,
@@ -123,9 +130,6 @@ impl Systems for Recompute {
         ensures few { steps.new ≤ steps.old + pairs_count before.now.lines field }
         ensures counts { steps.old ≤ steps.new }
     {
-        match extend(alloc, before, field, steps) {
-            Ok(system) => Ok(Held::Own(system)),
-            Err(fault) => Err(fault),
-        }
+        Ok(Held::Own(extend(alloc, before, field, steps)?))
     }
 }

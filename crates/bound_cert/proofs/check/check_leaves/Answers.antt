@@ -12,7 +12,8 @@ returns-in-Invalid-clause-bad c =
     let leaves = c.args.leaves.now in
     let i = c.loop-place.place in
     λ leaf step same.
-    let found = fault-first k leaves i c.loop-place.invariant c.in-Invalid.step (subst (λ (v : Verdict). SaysOfPlace k leaves i (drop i leaves) v) c.in-Invalid.is c.in_ok-verdict_at.ensures) in
+    let found = fault-first k leaves i c.loop-place.invariant c.in-Invalid.step (subst (λ (v : Verdict). SaysOfPlace k leaves i (drop i leaves) v)
+    c.in-Invalid.is c.in_ok-verdict_at.ensures) in
     let place : i ≡ leaf = cc in
     let named : c.in-Invalid.step ≡ step = cc in
     subst (λ (n : ℕ). IsFirstFault k leaves n step) place (subst (λ (s : Option ℕ). IsFirstFault k leaves i s) named found)
@@ -21,7 +22,9 @@ pub loop-place-preserved : goal.loop-place-preserved
 loop-place-preserved c =
     let k = case c.args.task.now in
     let leaves = c.args.leaves.now in
-    let i = c.loop-place.place in goes-more k leaves i c.loop-place.invariant (subst (λ (v : Verdict). SaysOfPlace k leaves i (drop i leaves) v) c.in-Valid.is c.in_ok-verdict_at.ensures)
+    let i = c.loop-place.place in goes-more k leaves i c.loop-place.invariant (subst (λ (v : Verdict). SaysOfPlace k leaves i (drop i leaves) v) c.in-Valid.is
+    c.in_ok-verdict_at.ensures)
 
 pub returns-clause-valid : goal.returns-clause-valid
-returns-clause-valid c = all-valid (case c.args.task.now) c.args.leaves.now c.loop-place.place (omega (arith, c.loop-place-test.false)) (λ none. absurd (cc (sym c.if-is_empty.false ∙ c.is_empty.ensures ∙ ap (λ (ls : List Leaf). length ls == 0) none))) c.loop-place.invariant
+returns-clause-valid c = all-valid (case c.args.task.now) c.args.leaves.now c.loop-place.place (omega (arith, c.loop-place-test.false))
+    (λ none. absurd (cc (sym c.if-is_empty.false ∙ c.is_empty.ensures ∙ ap (λ (ls : List Leaf). length ls == 0) none))) c.loop-place.invariant

@@ -7,4 +7,5 @@ use Rattle.bound_cert.proofs.path_fields.keeps_bad.Given as goal
 
 abbrev pub invariant-loop-place : goal.invariant-loop-place
 invariant-loop-place l =
-    list_any (λ f. is_bad (value_of l.row f)) (kept_in (drop l.place (path_order l.survey.fields)) (drop l.place l.path)) ≡ list_any (λ f. is_bad (value_of l.row f)) (kept_in (path_order l.survey.fields) l.path)
+    list_any (λ f. is_bad (value_of l.row f)) (kept_in (drop l.place (path_order l.survey.fields)) (drop l.place l.path))
+    ≡ list_any (λ f. is_bad (value_of l.row f)) (kept_in (path_order l.survey.fields) l.path)

@@ -7,5 +7,6 @@ use Rattle.categ_combine.proofs.code_field.spot_of.Goals as goal
 
 pub invariant_of-result : goal.invariant_of-result
 invariant_of-result c =
-    let is : c.whole_set-whole.result ≡ whole_of (domains c.args.shape) c.args.field = c.whole_set-whole.ensures ∙ ap (λ n. 2 ^ n - 1) c.size_of.ensures.size ∙ sym (whole_of-is (domains c.args.shape) c.args.field c.requires) in
+    let is : c.whole_set-whole.result ≡ whole_of (domains c.args.shape) c.args.field = c.whole_set-whole.ensures
+    ∙ ap (λ n. 2 ^ n - 1) c.size_of.ensures.size ∙ sym (whole_of-is (domains c.args.shape) c.args.field c.requires) in
     record { stands = spot-of (domains c.args.shape) c.args.field _ _ c.requires c.place_of-place.ensures is }

@@ -5,5 +5,6 @@ use Rattle.categ_combine.proofs.cover.take_row.Goals as goal
 
 pub loop-i-preserved : goal.loop-i-preserved
 loop-i-preserved c =
-    let e = each-taken with_from (joined_for c.args.spot.now.place c.args.spot.now.whole c.args.code c.args.cover.now) c.args.next.now.items c.args.boxes.now c.loop-i.i c.index-boxes-i.result c.loop-i-test.true in
+    let e = each-taken with_from (joined_for c.args.at.now.spot.place c.args.at.now.spot.whole c.args.at.now.code c.args.cover.now)
+    c.args.work.now.next.items c.args.boxes.now c.loop-i.i c.index-boxes-i.result c.loop-i-test.true in
     cc (e, c.in_ok-take_joined.ensures, c.loop-i.invariant, c.index-boxes-i.is)

@@ -6,4 +6,5 @@ use Rattle.categ_combine.specs.Each.{each_from}
 use Rattle.categ_combine.proofs.cover.take_row.Given as goal
 
 abbrev pub invariant-loop-i : goal.invariant-loop-i
-invariant-loop-i l = l.next.items ≡ fold with_from l.initial.next.items (each_from (joined_for l.spot.place l.spot.whole l.code l.cover) 0 (take l.i l.boxes))
+invariant-loop-i l =
+    l.work.next.items ≡ fold with_from l.initial.work.next.items (each_from (joined_for l.at.spot.place l.at.spot.whole l.at.code l.cover) 0 (take l.i l.boxes))

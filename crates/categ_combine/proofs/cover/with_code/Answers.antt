@@ -10,8 +10,12 @@ use Rattle.categ_combine.proofs.cover.with_code.Goals as goal
 
 pub returns-clause-over : goal.returns-clause-over
 returns-clause-over c =
-    let is : c.loop-cover.next.items ≡ with_code_from c.args.spot.now.place c.args.spot.now.whole c.args.boxes.now c.args.covers.now c.args.code =
-    c.loop-cover.invariant ∙ ap (λ (cs : List BoxFrom). reduce_from (flat_map (row_of c.args.spot.now.place c.args.spot.now.whole c.args.code c.args.boxes.now) cs)) (take_all c.loop-cover.cover-index c.args.covers.now (omega arith)) in
-    subst (λ (bs : List BoxFrom). AreBoxesOver (domains c.args.spot.now.shape) bs) (sym is) (
-    over-with_code c.args.spot.now.place c.args.spot.now.whole (domains c.args.spot.now.shape) c.args.boxes.now c.args.covers.now c.args.code c.requires.covers
+    let is : c.loop-cover.work.next.items ≡ with_code_from c.args.at.now.spot.place c.args.at.now.spot.whole c.args.boxes.now c.args.covers.now
+    c.args.at.now.code =
+    c.loop-cover.invariant ∙ ap (λ (cs : List BoxFrom). reduce_from
+    (flat_map (row_of c.args.at.now.spot.place c.args.at.now.spot.whole c.args.at.now.code c.args.boxes.now) cs))
+    (take_all c.loop-cover.cover-index c.args.covers.now (omega arith)) in
+    subst (λ (bs : List BoxFrom). AreBoxesOver (domains c.args.at.now.spot.shape) bs) (sym is) (
+    over-with_code c.args.at.now.spot.place c.args.at.now.spot.whole (domains c.args.at.now.spot.shape) c.args.boxes.now c.args.covers.now
+    c.args.at.now.code c.requires.covers
     )

@@ -5,4 +5,4 @@ use Rattle.categ_combine.specs.Covers.{row_of}
 use Rattle.categ_combine.proofs.cover.with_code.Given as goal
 
 abbrev pub invariant-loop-cover : goal.invariant-loop-cover
-invariant-loop-cover l = l.next.items ≡ reduce_from (flat_map (row_of l.spot.place l.spot.whole l.code l.boxes) (take l.cover-index l.covers))
+invariant-loop-cover l = l.work.next.items ≡ reduce_from (flat_map (row_of l.at.spot.place l.at.spot.whole l.at.code l.boxes) (take l.cover-index l.covers))

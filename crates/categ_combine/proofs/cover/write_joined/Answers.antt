@@ -9,7 +9,8 @@ use Rattle.categ_combine.proofs.cover.write_joined.Goals.{After-narrow}
 
 pub narrow-requires : goal.narrow-requires
 narrow-requires c =
-    let filled : c.extend_from_slice.new.self.items ≡ c.args.cover.now.code_box.sets = c.in_ok-extend_from_slice.ensures.items ∙ ap (λ (ss : List ℕ). ss ++ c.sets.result.now) c.clear.ensures.items ∙ c.sets.ensures.sets in
+    let filled : c.extend_from_slice.new.self.items ≡ c.args.cover.now.code_box.sets = c.in_ok-extend_from_slice.ensures.items
+    ∙ ap (λ (ss : List ℕ). ss ++ c.sets.result.now) c.clear.ensures.items ∙ c.sets.ensures.sets in
     omega (
       arith,
       ap length filled,
@@ -23,13 +24,16 @@ narrow-requires c =
 module _ (c : After-narrow) where
   joined : c.narrow.new.sets.items ≡ in_both c.args.cover.now.code_box.sets c.args.b.now.code_box.sets
   joined =
-      let filled : c.extend_from_slice.new.self.items ≡ c.args.cover.now.code_box.sets = c.in_ok-extend_from_slice.ensures.items ∙ ap (λ (ss : List ℕ). ss ++ c.sets.result.now) c.clear.ensures.items ∙ c.sets.ensures.sets in
-      c.narrow.ensures ∙ ap (λ (ss : List ℕ). in_both ss c.sets-2.result.now) filled ∙ ap (λ (ss : List ℕ). in_both c.args.cover.now.code_box.sets ss) c.sets-2.ensures.sets
+      let filled : c.extend_from_slice.new.self.items ≡ c.args.cover.now.code_box.sets = c.in_ok-extend_from_slice.ensures.items
+      ∙ ap (λ (ss : List ℕ). ss ++ c.sets.result.now) c.clear.ensures.items ∙ c.sets.ensures.sets in
+      c.narrow.ensures ∙ ap (λ (ss : List ℕ). in_both ss c.sets-2.result.now) filled
+      ∙ ap (λ (ss : List ℕ). in_both c.args.cover.now.code_box.sets ss) c.sets-2.ensures.sets
 
 pub index_mut-requires : goal.index_mut-requires
 index_mut-requires c =
     let at = (goal.at.index_mut-requires c).After-narrow in
-    let within = common-within _ _ _ c.args.cover.now.code_box.sets c.args.b.now.code_box.sets c.args.spot.now.place c.args.spot.now.whole c.args.spot.now.stands c.requires.cover c.requires.other c.sets.ensures.fit c.sets-2.ensures.fit in
+    let within = common-within _ _ _ c.args.cover.now.code_box.sets c.args.b.now.code_box.sets c.args.spot.now.place c.args.spot.now.whole
+    c.args.spot.now.stands c.requires.cover c.requires.other c.sets.ensures.fit c.sets-2.ensures.fit in
     let below : c.args.spot.now.place < length c.narrow.new.sets.items = omega (arith, within, ap length (joined at)) in
     search rules
 
@@ -41,5 +45,6 @@ returns-clause-fit c = λ told.
     let cover = c.args.cover.now.code_box in
     let other = c.args.b.now.code_box in
     let some = ap (λ (ss : List ℕ). none_is_empty (slice_set ss place whole)) (sym (joined at)) ∙ told in
-    let are = common-sets _ _ _ cover.sets other.sets place whole c.args.spot.now.stands c.requires.cover c.requires.other c.sets.ensures.fit c.sets-2.ensures.fit some in
+    let are = common-sets _ _ _ cover.sets other.sets place whole c.args.spot.now.stands c.requires.cover c.requires.other c.sets.ensures.fit
+    c.sets-2.ensures.fit some in
     subst (λ (ss : List ℕ). AreSets (slice_set ss place whole) (whole_sets cover.shape)) (sym (joined at)) are

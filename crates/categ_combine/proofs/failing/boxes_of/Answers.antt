@@ -13,37 +13,46 @@ use Rattle.categ_combine.proofs.failing.boxes_of.Goals as goal
 
 pub returns-in-Err-clause-overflow : goal.returns-in-Err-clause-overflow
 returns-in-Err-clause-overflow c = λ line field told.
-    let first = sym c.loop-i.invariant ∙ failing-fault c.args.lines.now c.args.row.now c.loop-i.kept.items c.loop-i.i c.in-Err.overflow.field c.index-lines-i.result c.loop-i-test.true c.index-lines-i.is c.in-Err.ensures.overflow in
+    let first = sym c.loop-i.invariant ∙ failing-fault c.args.lines.now c.args.row.now c.loop-i.kept.items c.loop-i.i c.in-Err.overflow.field
+    c.index-lines-i.result c.loop-i-test.true c.index-lines-i.is c.in-Err.ensures.overflow in
     let same_line : c.loop-i.i ≡ line = cc in
     let same_field : c.in-Err.overflow.field ≡ field = cc in
     first ∙ ap (λ n. Err (record { line = n; field = c.in-Err.overflow.field })) same_line ∙ ap (λ n. Err (record { line = line; field = n })) same_field
 
 pub returns-in-Err-clause-overflow_sets : goal.returns-in-Err-clause-overflow_sets
-returns-in-Err-clause-overflow_sets c = λ line field told. failing-faults c.args.lines.now c.args.row.now (record { line = line; field = field }) (returns-in-Err-clause-overflow c line field told)
+returns-in-Err-clause-overflow_sets c =
+    λ line field told. failing-faults c.args.lines.now c.args.row.now (record { line = line; field = field }) (returns-in-Err-clause-overflow c line field told)
 
 pub returns-clause-origins : goal.returns-clause-origins
 returns-clause-origins c =
-    failing-comes c.args.lines.now c.args.row.now c.loop-i.kept.items (sym c.loop-i.invariant ∙ failing-end c.args.lines.now c.args.row.now c.loop-i.kept.items c.loop-i.i (omega arith))
+    failing-comes c.args.lines.now c.args.row.now c.loop-i.kept.items
+    (sym c.loop-i.invariant ∙ failing-end c.args.lines.now c.args.row.now c.loop-i.kept.items c.loop-i.i (omega arith))
 
 pub loop-i-preserved : goal.loop-i-preserved
 loop-i-preserved c =
     ap (λ (bs : List BoxFrom). failing_from (c.loop-i.i + 1) (drop (c.loop-i.i + 1) c.args.lines.now) c.args.row.now bs) c.in_ok-take_line-in-Ok.ensures
-    ∙ failing-next c.args.lines.now c.args.row.now c.loop-i.kept.items c.loop-i.i c.index-lines-i.result c.in-Ok.failed c.loop-i-test.true c.index-lines-i.is c.in-Ok.ensures.answer
+    ∙ failing-next c.args.lines.now c.args.row.now c.loop-i.kept.items c.loop-i.i c.index-lines-i.result c.in-Ok.failed c.loop-i-test.true
+    c.index-lines-i.is c.in-Ok.ensures.answer
     ∙ c.loop-i.invariant
 
 pub returns-clause-over : goal.returns-clause-over
 returns-clause-over c =
-    over-failing (shape_of c.args.survey.now.fields) 0 c.args.lines.now c.args.row.now [] c.loop-i.kept.items c.requires.shape (λ k d below. absurd (omega arith))
+    over-failing (shape_of c.args.survey.now.fields) 0 c.args.lines.now c.args.row.now [] c.loop-i.kept.items c.requires.shape
+    (λ k d below. absurd (omega arith))
     (sym c.loop-i.invariant ∙ failing-end c.args.lines.now c.args.row.now c.loop-i.kept.items c.loop-i.i (omega arith))
 
 pub returns-clause-sets : goal.returns-clause-sets
 returns-clause-sets c =
-    failing-sets c.args.lines.now c.args.row.now c.loop-i.kept.items (sym c.loop-i.invariant ∙ failing-end c.args.lines.now c.args.row.now c.loop-i.kept.items c.loop-i.i (omega arith))
+    failing-sets c.args.lines.now c.args.row.now c.loop-i.kept.items
+    (sym c.loop-i.invariant ∙ failing-end c.args.lines.now c.args.row.now c.loop-i.kept.items c.loop-i.i (omega arith))
 
 pub returns-clause-forbid : goal.returns-clause-forbid
 returns-clause-forbid c = λ p agree.
-    let made = failing-sets c.args.lines.now c.args.row.now c.loop-i.kept.items (sym c.loop-i.invariant ∙ failing-end c.args.lines.now c.args.row.now c.loop-i.kept.items c.loop-i.i (omega arith)) in
-    failing-avoids (shape_of c.args.survey.now.fields) c.args.row.now p c.args.lines.now (sets_of c.loop-i.kept.items) c.requires.shape (λ k d below. numbers-agreed c.args.survey.now.fields c.args.row.now (get_or c.args.lines.now k d).line p (c.requires.shape k d below) c.requires.row (agree k d below)) agree made
+    let made = failing-sets c.args.lines.now c.args.row.now c.loop-i.kept.items
+    (sym c.loop-i.invariant ∙ failing-end c.args.lines.now c.args.row.now c.loop-i.kept.items c.loop-i.i (omega arith)) in
+    failing-avoids (shape_of c.args.survey.now.fields) c.args.row.now p c.args.lines.now (sets_of c.loop-i.kept.items) c.requires.shape
+    (λ k d below. numbers-agreed c.args.survey.now.fields c.args.row.now (get_or c.args.lines.now k d).line p (c.requires.shape k d below)
+    c.requires.row (agree k d below)) agree made
 
 pub returns-clause-apart : goal.returns-clause-apart
 returns-clause-apart c =

@@ -21,7 +21,9 @@ returns-in-Some-clause-over c =
     (λ left. ForShape boxes c.args.field c.args.code (λ shape. AreBoxesOver shape left.items))
     c.fix_at.result (
     λ left is fit. λ shape over below.
-    subst (λ bs. AreBoxesOver shape bs) (sym (fixed-exact own shape boxes left.items c.args.field c.args.code spot.place spot.whole (c.shape.ensures ∙ first-shape boxes c.in-Some.first.now shape c.in-Some.ensures.value over) c.spot_of-spot.ensures.place c.spot_of-spot.ensures.whole is))
+    subst (λ bs. AreBoxesOver shape bs) (sym (fixed-exact own shape boxes left.items c.args.field c.args.code spot.place spot.whole
+    (c.shape.ensures ∙ first-shape boxes c.in-Some.first.now shape c.in-Some.ensures.value over) c.spot_of-spot.ensures.place
+    c.spot_of-spot.ensures.whole is))
     (over-fixed shape boxes c.args.field c.args.code over)
     ) c.fix_at.ensures.left c.fix_at.ensures.fit
 
@@ -35,7 +37,9 @@ returns-in-Some-clause-origins c =
     c.fix_at.result (
     λ left is fit. λ shape over below.
     subst (λ bs. AllCome (ComesFromFix shape boxes c.args.field c.args.code) bs)
-    (sym (fixed-exact own shape boxes left.items c.args.field c.args.code spot.place spot.whole (c.shape.ensures ∙ first-shape boxes c.in-Some.first.now shape c.in-Some.ensures.value over) c.spot_of-spot.ensures.place c.spot_of-spot.ensures.whole is))
+    (sym (fixed-exact own shape boxes left.items c.args.field c.args.code spot.place spot.whole
+    (c.shape.ensures ∙ first-shape boxes c.in-Some.first.now shape c.in-Some.ensures.value over) c.spot_of-spot.ensures.place
+    c.spot_of-spot.ensures.whole is))
     (fixed-comes shape boxes c.args.field over c.args.code)
     ) c.fix_at.ensures.left c.fix_at.ensures.fit
 
@@ -48,7 +52,9 @@ returns-in-Some-clause-sets c =
     (λ left. ForShape boxes c.args.field c.args.code (λ shape. sets_of left.items ≡ fixed shape (sets_of boxes) c.args.field c.args.code))
     c.fix_at.result (
     λ left is fit. λ shape over below.
-    fixed-sets own shape boxes left.items c.args.field c.args.code spot.place spot.whole (c.shape.ensures ∙ first-shape boxes c.in-Some.first.now shape c.in-Some.ensures.value over) c.spot_of-spot.ensures.place c.spot_of-spot.ensures.whole is
+    fixed-sets own shape boxes left.items c.args.field c.args.code spot.place spot.whole
+    (c.shape.ensures ∙ first-shape boxes c.in-Some.first.now shape c.in-Some.ensures.value over) c.spot_of-spot.ensures.place
+    c.spot_of-spot.ensures.whole is
     ) c.fix_at.ensures.left c.fix_at.ensures.fit
 
 pub returns-in-Some-clause-same : goal.returns-in-Some-clause-same
@@ -60,7 +66,9 @@ returns-in-Some-clause-same c =
     (λ left. ForShape boxes c.args.field c.args.code (λ shape. SayWithCode shape boxes c.args.field c.args.code left.items))
     c.fix_at.result (
     λ left is fit. λ shape over below p held.
-    fixed-same own shape boxes left.items c.args.field c.args.code spot.place spot.whole (c.shape.ensures ∙ first-shape boxes c.in-Some.first.now shape c.in-Some.ensures.value over) c.spot_of-spot.ensures.place c.spot_of-spot.ensures.whole is p over fit below held
+    fixed-same own shape boxes left.items c.args.field c.args.code spot.place spot.whole
+    (c.shape.ensures ∙ first-shape boxes c.in-Some.first.now shape c.in-Some.ensures.value over) c.spot_of-spot.ensures.place
+    c.spot_of-spot.ensures.whole is p over fit below held
     ) c.fix_at.ensures.left c.fix_at.ensures.fit
 
 pub returns-in-Some-clause-apart : goal.returns-in-Some-clause-apart

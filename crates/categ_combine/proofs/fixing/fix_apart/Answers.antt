@@ -14,10 +14,13 @@ returns-in-Some-clause-over c =
     let boxes = c.args.boxes.now in
     let spot = c.spot_of-spot.result in
     let own = domains c.shape.result in
-    ok-so (λ left. left.items ≡ reduce_from (each_from (fixed_one spot.place spot.whole c.args.code) 0 boxes)) (λ left. ForShape boxes c.args.field c.args.code (λ shape. AreBoxesOver shape left.items))
+    ok-so (λ left. left.items ≡ reduce_from (each_from (fixed_one spot.place spot.whole c.args.code) 0 boxes))
+    (λ left. ForShape boxes c.args.field c.args.code (λ shape. AreBoxesOver shape left.items))
     c.fix_at.result (
     λ left is. λ shape over below.
-    subst (λ bs. AreBoxesOver shape bs) (sym (fixed-exact own shape boxes left.items c.args.field c.args.code spot.place spot.whole (c.shape.ensures ∙ first-shape boxes c.in-Some.first.now shape c.in-Some.ensures.value over) c.spot_of-spot.ensures.place c.spot_of-spot.ensures.whole is))
+    subst (λ bs. AreBoxesOver shape bs) (sym (fixed-exact own shape boxes left.items c.args.field c.args.code spot.place spot.whole
+    (c.shape.ensures ∙ first-shape boxes c.in-Some.first.now shape c.in-Some.ensures.value over) c.spot_of-spot.ensures.place
+    c.spot_of-spot.ensures.whole is))
     (over-fixed shape boxes c.args.field c.args.code over)
     ) c.fix_at.ensures.left
 

@@ -15,19 +15,23 @@ use Rattle.categ_combine.proofs.fixing.fix_at.Goals as goal
 pub take_fixed-requires-clause-clear : goal.take_fixed-requires-clause-clear
 take_fixed-requires-clause-clear c = λ known.
     c.loop-i.invariant.2 known c.index-boxes-i.result
-    (subst (λ (bs : List BoxFrom). IsIn c.index-boxes-i.result bs) (sym (drop-cons c.args.boxes.now c.loop-i.i c.index-boxes-i.result c.loop-i-test.true)) (inl c.index-boxes-i.is))
+    (subst (λ (bs : List BoxFrom). IsIn c.index-boxes-i.result bs) (sym (drop-cons c.args.boxes.now c.loop-i.i c.index-boxes-i.result c.loop-i-test.true))
+    (inl c.index-boxes-i.is))
 
 pub loop-i-preserved : goal.loop-i-preserved
 loop-i-preserved c =
     let boxes = c.args.boxes.now in
     let i = c.loop-i.i in
     let own = c.index-boxes-i.result in
-    let e = each-taken with_from (fixed_one c.args.spot.now.place c.args.spot.now.whole c.args.code) [] boxes i own c.loop-i-test.true in
+    let e = each-taken with_from (fixed_one c.args.by.now.spot.place c.args.by.now.spot.whole c.args.by.now.code) [] boxes i own c.loop-i-test.true in
     let fit : IsBox (get_or boxes i own).code_box = subst (λ (b : BoxFrom). IsBox b.code_box) c.index-boxes-i.is c.in_ok-take_fixed.ensures.fit in
-    let fits = within-spot _ _ (get_or boxes i own).code_box.sets c.args.spot.now.place c.args.spot.now.whole c.args.spot.now.stands (c.requires.over i own c.loop-i-test.true) fit in (
+    let fits = within-spot _ _ (get_or boxes i own).code_box.sets c.args.by.now.spot.place c.args.by.now.spot.whole c.args.by.now.spot.stands
+    (c.requires.over i own c.loop-i-test.true) fit in (
       cc (e, c.in_ok-take_fixed.ensures.kept, c.loop-i.invariant.0, c.index-boxes-i.is),
       All-more (λ (b : BoxFrom). IsBox b.code_box) boxes i own c.loop-i-test.true c.loop-i.invariant.1 fit,
-      λ known. subst (λ (bs : List BoxFrom). AllClear c.args.spot.now.place c.args.spot.now.whole bs (drop (i + 1) boxes))
-          (sym (c.in_ok-take_fixed.ensures.kept ∙ ap (λ (b : BoxFrom). fold with_from c.loop-i.kept.items (fixed_one c.args.spot.now.place c.args.spot.now.whole c.args.code i b)) c.index-boxes-i.is))
-          (clear-more c.args.spot.now.place c.args.spot.now.whole c.args.code boxes c.loop-i.kept.items i own (c.requires.apart known) c.loop-i-test.true c.args.spot.now.stands.some fits (c.loop-i.invariant.2 known)),
+      λ known. subst (λ (bs : List BoxFrom). AllClear c.args.by.now.spot.place c.args.by.now.spot.whole bs (drop (i + 1) boxes))
+          (sym (c.in_ok-take_fixed.ensures.kept ∙ ap (λ (b : BoxFrom). fold with_from c.loop-i.kept.items
+          (fixed_one c.args.by.now.spot.place c.args.by.now.spot.whole c.args.by.now.code i b)) c.index-boxes-i.is))
+          (clear-more c.args.by.now.spot.place c.args.by.now.spot.whole c.args.by.now.code boxes c.loop-i.kept.items i own (c.requires.apart known)
+          c.loop-i-test.true c.args.by.now.spot.stands.some fits (c.loop-i.invariant.2 known)),
     )

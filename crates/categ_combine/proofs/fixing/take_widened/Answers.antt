@@ -7,9 +7,11 @@ use Rattle.categ_combine.proofs.fixing.take_widened.Goals as goal
 
 pub returns : goal.returns
 returns c =
-    let fits = within-spot _ _ c.args.b.now.code_box.sets c.args.spot.now.place c.args.spot.now.whole c.args.spot.now.stands c.requires.shape c.sets-sets.ensures.fit in
+    let fits = within-spot _ _ c.args.b.now.code_box.sets c.args.by.now.spot.place c.args.by.now.spot.whole c.args.by.now.spot.stands c.requires.shape
+    c.sets-sets.ensures.fit in
     let own = ap (λ (x : BoxParts). x.sets) c.in_ok-made_whole.ensures in
     ok-same c.put_beside.result c.put_beside.new.kept.items _ _
-    (sym (takes-widened c.args.spot.now.place c.args.spot.now.whole c.args.b.now.code_box.sets c.args.apart c.args.kept.now.items (record { code_box = c.in_ok-made_whole.field-0; origin = Fixed c.args.i }) fits c.requires.clear own)
+    (sym (takes-widened c.args.by.now.spot.place c.args.by.now.spot.whole c.args.b.now.code_box.sets c.args.by.now.apart c.args.kept.now.items
+    (record { code_box = c.in_ok-made_whole.field-0; origin = Fixed c.args.i }) fits c.requires.clear own)
     ∙ ap (λ (x : BoxParts). with_from c.args.kept.now.items (record { code_box = x; origin = Fixed c.args.i })) c.in_ok-made_whole.ensures)
     c.put_beside.ensures

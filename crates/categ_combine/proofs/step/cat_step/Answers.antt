@@ -30,13 +30,15 @@ returns-in-None-clause-passed c = λ shape over takes.
 pub returns-in-None-clause-sets : goal.returns-in-None-clause-sets
 returns-in-None-clause-sets c = λ shape over takes.
     let none = none-first c.args.boxes.now c.in-None.ensures.value in
-    let exact : c.from_vec.result ≡ covered_from shape c.args.boxes.now c.args.field = cc (c.from_vec.ensures, c.new.ensures.items, none-covered shape c.args.field takes, ap (λ (bs : List BoxFrom). covered_from shape bs c.args.field) none) in
+    let exact : c.from_vec.result ≡ covered_from shape c.args.boxes.now c.args.field = cc
+    (c.from_vec.ensures, c.new.ensures.items, none-covered shape c.args.field takes, ap (λ (bs : List BoxFrom). covered_from shape bs c.args.field) none) in
     ap (λ (bs : List BoxFrom). sets_of bs) exact ∙ sets-covered shape c.args.boxes.now c.args.field
 
 pub returns-in-None-clause-over : goal.returns-in-None-clause-over
 returns-in-None-clause-over c = λ shape over takes.
     let none = none-first c.args.boxes.now c.in-None.ensures.value in
-    let exact : c.from_vec.result ≡ covered_from shape c.args.boxes.now c.args.field = cc (c.from_vec.ensures, c.new.ensures.items, none-covered shape c.args.field takes, ap (λ (bs : List BoxFrom). covered_from shape bs c.args.field) none) in
+    let exact : c.from_vec.result ≡ covered_from shape c.args.boxes.now c.args.field = cc
+    (c.from_vec.ensures, c.new.ensures.items, none-covered shape c.args.field takes, ap (λ (bs : List BoxFrom). covered_from shape bs c.args.field) none) in
     subst (λ bs. AreBoxesOver shape bs) (sym exact) (over-covered shape c.args.boxes.now c.args.field over)
 
 pub returns-in-Some-clause-over : goal.returns-in-Some-clause-over
@@ -53,7 +55,8 @@ returns-in-Some-clause-over c =
 pub returns-in-None-clause-origins : goal.returns-in-None-clause-origins
 returns-in-None-clause-origins c = λ shape over takes.
     let none = none-first c.args.boxes.now c.in-None.ensures.value in
-    let exact : c.from_vec.result ≡ covered_from shape c.args.boxes.now c.args.field = cc (c.from_vec.ensures, c.new.ensures.items, none-covered shape c.args.field takes, ap (λ (bs : List BoxFrom). covered_from shape bs c.args.field) none) in
+    let exact : c.from_vec.result ≡ covered_from shape c.args.boxes.now c.args.field = cc
+    (c.from_vec.ensures, c.new.ensures.items, none-covered shape c.args.field takes, ap (λ (bs : List BoxFrom). covered_from shape bs c.args.field) none) in
     subst (λ bs. AllCome (ComesFromCover shape c.args.boxes.now c.args.field) bs) (sym exact) (covered-comes shape c.args.boxes.now c.args.field over takes)
 
 pub returns-in-Some-clause-origins : goal.returns-in-Some-clause-origins

@@ -7,4 +7,5 @@ use Rattle.categ_combine.proofs.step.first_cover.Goals as goal
 
 pub over-requires : goal.over-requires
 over-requires c =
-    subst (λ (sets : List ℕ). AreSets sets (whole_sets (domains c.args.spot.now.shape))) (sym c.in_ok-sets.ensures) (wholes-are (take c.args.spot.now.shape.count c.args.spot.now.shape.codes))
+    subst (λ (sets : List ℕ). AreSets sets (whole_sets (domains c.args.spot.now.shape))) (sym c.in_ok-sets.ensures)
+    (wholes-are (take c.args.spot.now.shape.count c.args.spot.now.shape.codes))

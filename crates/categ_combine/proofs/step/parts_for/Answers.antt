@@ -4,4 +4,6 @@ use Rattle.std.proofs.lemmas.Iterator.Consumers.{YieldsList-from_filter, count_f
 use Rattle.categ_combine.proofs.step.parts_for.Goals as goal
 
 pub returns : goal.returns
-returns c = count_from_yields_List c.filter.result _ c.count.ensures.ran (YieldsList-from_filter _ _ (YieldsList-from_slice c.args.boxes.now cc) c.filter.ensures.closure (λ x r q k. search (rules, tests)))
+returns c =
+    count_from_yields_List c.filter.result _ c.count.ensures.ran
+    (YieldsList-from_filter _ _ (YieldsList-from_slice c.args.boxes.now cc) c.filter.ensures.closure (λ x r q k. search (rules, tests)))

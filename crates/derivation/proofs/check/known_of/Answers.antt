@@ -12,7 +12,8 @@ use Rattle.derivation.proofs.check.known_of.Goals as goal
 
 pub made_by-requires-clause-over : goal.made_by-requires-clause-over
 made_by-requires-clause-over c =
-    subst (λ (ks : List Known). AllOver (shape_of c.args.basis.now.survey.now.fields) ks) (sym c.deref.ensures.value) (over-known (premises c.args.basis.now) c.loop-step.known.items c.loop-step.invariant.1)
+    subst (λ (ks : List Known). AllOver (shape_of c.args.basis.now.survey.now.fields) ks) (sym c.deref.ensures.value)
+    (over-known (premises c.args.basis.now) c.loop-step.known.items c.loop-step.invariant.1)
 
 pub loop-step-preserved : goal.loop-step-preserved
 loop-step-preserved c =
@@ -23,8 +24,12 @@ loop-step-preserved c =
     let x = meaning c.in-Some.made in
     let steps = c.args.steps.now in
     let i = c.loop-step.step-index in
-    let made : Some x ≡ proved_by p earlier one = ap meant (sym c.in-Some.is) ∙ c.in_ok-made.ensures ∙ ap (λ (ks : List Known). proved_by p (map meaning ks) one) c.deref.ensures.value in
-    let all : map meaning c.push.new.self.items ≡ earlier ++ x ∷ [] = ap (λ (ks : List Known). map meaning ks) c.in_ok-push.ensures.items ∙ map-append meaning known (c.in-Some.made ∷ []) in (
-      ap (λ (xs : List Proved). proved_from p xs (drop (i + 1) steps)) all ∙ valid-more p steps earlier i _ c.loop-step.invariant.0 one x c.loop-step-test.true c.step-item.is made,
-      subst (λ (xs : List Proved). AllKnown p xs) (sym all) (more-known p c.args.basis.now.survey.now.fields refl c.requires.row c.requires.kept c.requires.over earlier one x c.loop-step.invariant.1 (sym made)),
+    let made : Some x ≡ proved_by p earlier one = ap meant (sym c.in-Some.is) ∙ c.in_ok-made.ensures
+    ∙ ap (λ (ks : List Known). proved_by p (map meaning ks) one) c.deref.ensures.value in
+    let all : map meaning c.push.new.self.items ≡ earlier ++ x ∷ [] = ap (λ (ks : List Known). map meaning ks) c.in_ok-push.ensures.items
+    ∙ map-append meaning known (c.in-Some.made ∷ []) in (
+      ap (λ (xs : List Proved). proved_from p xs (drop (i + 1) steps)) all ∙ valid-more p steps earlier i _ c.loop-step.invariant.0 one x c.loop-step-test.true
+          c.step-item.is made,
+      subst (λ (xs : List Proved). AllKnown p xs) (sym all) (more-known p c.args.basis.now.survey.now.fields refl c.requires.row c.requires.kept c.requires.over
+          earlier one x c.loop-step.invariant.1 (sym made)),
     )

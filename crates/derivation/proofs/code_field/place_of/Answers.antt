@@ -8,4 +8,5 @@ use Rattle.derivation.proofs.code_field.place_of.Goals as goal
 pub returns : goal.returns
 returns c =
     let fields = c.args.survey.now.fields in
-    c.place_among.ensures ∙ ap (λ (ns : List ℕ). position (λ i. i == c.args.field) ns) (same_codes c.codes.result.now fields (shape_of fields) c.codes.ensures (λ i. shape_of fields)) ∙ place-found _ c.args.field
+    c.place_among.ensures ∙ ap (λ (ns : List ℕ). position (λ i. i == c.args.field) ns) (same_codes c.codes.result.now fields (shape_of fields) c.codes.ensures
+    (λ i. shape_of fields)) ∙ place-found _ c.args.field

@@ -15,7 +15,8 @@ use Rattle.derivation.proofs.combining.combined_lines.Goals as goal
 pub all_meet-requires : goal.all_meet-requires
 all_meet-requires c =
     let second = subst (λ (shape : List Domain). AreSets c.args.t.now.sets (whole_sets shape)) c.requires c.sets-else-not-are_allowed.ensures.fit in
-    ap length c.sets.ensures.sets ∙ same-sets c.args.s.now.sets c.args.t.now.sets (whole_sets c.args.s.now.shape) c.sets.ensures.fit second ∙ sym (ap length c.sets-else-not-are_allowed.ensures.sets)
+    ap length c.sets.ensures.sets ∙ same-sets c.args.s.now.sets c.args.t.now.sets (whole_sets c.args.s.now.shape) c.sets.ensures.fit second
+    ∙ sym (ap length c.sets-else-not-are_allowed.ensures.sets)
 
 pub returns-in-Some : goal.returns-in-Some
 returns-in-Some c =
@@ -24,7 +25,8 @@ returns-in-Some c =
     let n_fits : FitsSigned w128 by.second = search rules in
     let place_is = simp to_z-of_z at c.write_sum.ensures.place in
     let allowed = sym c.are_allowed.ensures ∙ c.if-not-are_allowed.false in
-    let meet : all_meet c.args.s.now.sets c.args.t.now.sets ≡ true = sym (c.all_meet.ensures ∙ (λ i. all_meet (c.sets.ensures.sets i) (c.sets-else-not-are_allowed.ensures.sets i))) ∙ c.if-not-all_meet.false in
+    let meet : all_meet c.args.s.now.sets c.args.t.now.sets
+    ≡ true = sym (c.all_meet.ensures ∙ (λ i. all_meet (c.sets.ensures.sets i) (c.sets-else-not-are_allowed.ensures.sets i))) ∙ c.if-not-all_meet.false in
     overflowing by.first by.second by.divisor c.args.s.now c.args.t.now allowed meet c.in-Some.field-0 (sym place_is ∙ c.in-Some.is)
 
 pub divided-requires : goal.divided-requires
@@ -44,6 +46,7 @@ returns-in-None c =
     let sum_is = simp to_z-of_z at (c.write_sum.ensures.sum c.in-None.is) in
     let told = simp to_z-of_z at c.divided.ensures in
     let allowed = sym c.are_allowed.ensures ∙ c.if-not-are_allowed.false in
-    let meet : all_meet c.args.s.now.sets c.args.t.now.sets ≡ true = sym (c.all_meet.ensures ∙ (λ i. all_meet (c.sets.ensures.sets i) (c.sets-else-not-are_allowed.ensures.sets i))) ∙ c.if-not-all_meet.false in
+    let meet : all_meet c.args.s.now.sets c.args.t.now.sets
+    ≡ true = sym (c.all_meet.ensures ∙ (λ i. all_meet (c.sets.ensures.sets i) (c.sets-else-not-are_allowed.ensures.sets i))) ∙ c.if-not-all_meet.false in
     told ∙ ap (λ (line : LineParts). only_if (divides by.divisor line) (proved.Line (divided_by by.divisor line))) sum_is
     ∙ in-range by.first by.second by.divisor c.args.s.now c.args.t.now allowed meet (sym place_is ∙ c.in-None.is)

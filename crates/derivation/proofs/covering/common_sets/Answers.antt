@@ -24,7 +24,10 @@ narrow-requires c =
 pub loop-code-preserved : goal.loop-code-preserved
 loop-code-preserved c =
     let shape = shape_of c.args.basis.now.survey.now.fields in (
-      common-more (map meaning c.args.known.now) c.args.place c.loop-code.code c.args.parts.now c.loop-code.common.items c.in-Some.sets.now c.narrow.new.sets.items _ c.loop-code-test.true
-          (sym (ap (λ (o : Option (Bor (List ℕ))). option_map (λ s. s.now) o) c.in-Some.is) ∙ c.part_with.ensures.part) c.narrow.ensures c.loop-code.invariant.0,
-      still-within (whole_sets shape) c.loop-code.common.items c.in-Some.sets.now c.narrow.new.sets.items c.loop-code.invariant.1 (c.in-Some.ensures.fit shape c.requires.over) c.narrow.ensures,
+      common-more (map meaning c.args.known.now) c.args.place c.loop-code.code c.args.parts.now c.loop-code.common.items c.in-Some.sets.now
+          c.narrow.new.sets.items _ c.loop-code-test.true
+          (sym (ap (λ (o : Option (Bor (List ℕ))). option_map (λ s. s.now) o) c.in-Some.is) ∙ c.part_with.ensures.part) c.narrow.ensures
+          c.loop-code.invariant.0,
+      still-within (whole_sets shape) c.loop-code.common.items c.in-Some.sets.now c.narrow.new.sets.items c.loop-code.invariant.1
+          (c.in-Some.ensures.fit shape c.requires.over) c.narrow.ensures,
     )

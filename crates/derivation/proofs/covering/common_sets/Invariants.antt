@@ -7,5 +7,6 @@ use Rattle.derivation.proofs.covering.common_sets.Given as goal
 
 abbrev pub invariant-loop-code : goal.invariant-loop-code
 invariant-loop-code l =
-    (common_from (map meaning l.known) l.place l.code (drop l.code l.parts) l.common.items ≡ common_from (map meaning l.known) l.place 0 l.parts (whole_sets (shape_of l.basis.survey.now.fields)))
+    (common_from (map meaning l.known) l.place l.code (drop l.code l.parts) l.common.items
+    ≡ common_from (map meaning l.known) l.place 0 l.parts (whole_sets (shape_of l.basis.survey.now.fields)))
     × AreWithin l.common.items (whole_sets (shape_of l.basis.survey.now.fields))

@@ -15,7 +15,8 @@ loop-step-preserved c =
     let lines = c.loop-step.lines.items in
     let one = c.step-item.result in
     let line = c.in-Some.line in
-    let made : Some line ≡ line_by p lines one = sym c.in-Some.is ∙ c.in_ok-line.ensures p refl refl ∙ ap (λ (ls : List LineParts). line_by p ls one) c.deref.ensures.value in
+    let made : Some line ≡ line_by p lines one = sym c.in-Some.is ∙ c.in_ok-line.ensures p refl refl
+    ∙ ap (λ (ls : List LineParts). line_by p ls one) c.deref.ensures.value in
     let all : c.push.new.self.items ≡ lines ++ line ∷ [] = c.in_ok-push.ensures.items in (
       ap (λ (ls : List LineParts). lines_from p ls (drop (c.loop-step.step-index + 1) c.args.steps.now)) all
           ∙ line-more p c.args.steps.now lines c.loop-step.step-index _ c.loop-step.invariant.0 one line c.loop-step-test.true c.step-item.is made,

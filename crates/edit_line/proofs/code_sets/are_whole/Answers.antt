@@ -9,5 +9,6 @@ returns-in-None c =
     let counts = c.code_counts-count-items.result.now in
     let i = c.loop-count.count-index in
     let sets = c.args.sets.now in
-    sym (c.in-None.ensures.none (whole_sets (map domain_with (drop (i + 1) counts)))) ∙ sym (ap (λ (ws : List ℕ). pointwise nat_eq (drop c.loop-count.place sets) ws) (wholes-at counts i 0 c.loop-count-test.true))
+    sym (c.in-None.ensures.none (whole_sets (map domain_with (drop (i + 1) counts)))) ∙ sym
+    (ap (λ (ws : List ℕ). pointwise nat_eq (drop c.loop-count.place sets) ws) (wholes-at counts i 0 c.loop-count-test.true))
     ∙ c.loop-count.invariant ∙ ap (λ (shape : List Domain). pointwise nat_eq sets (whole_sets shape)) c.code_counts-count-items.ensures.domains

@@ -8,4 +8,5 @@ pub returns-then-divisor-eq1 : goal.returns-then-divisor-eq1
 returns-then-divisor-eq1 c =
     let constant_fits = c.ranges.constant in
     let before = simp to_z-of_z at c.loop-factor.invariant in
-    divisor-stops c.args.constant (to_z w128 c.loop-factor.divisor-bits) c.args.factors.now c.loop-factor.factor-index before.value (ap (λ n. to_z w128 n) c.if-divisor-eq1.true)
+    divisor-stops c.args.constant (to_z w128 c.loop-factor.divisor-bits) c.args.factors.now c.loop-factor.factor-index before.value
+    (ap (λ n. to_z w128 n) c.if-divisor-eq1.true)

@@ -5,4 +5,5 @@ use Rattle.edit_line.proofs.kept.remove_at.Goals as goal
 
 pub returns-then-subsumes_keyed-clause-keyed : goal.returns-then-subsumes_keyed-clause-keyed
 returns-then-subsumes_keyed-clause-keyed c =
-    c.remove-then-subsumes_keyed.ensures.items ∙ ap (λ ks. remove ks c.args.place) c.requires.keyed ∙ keys-removed c.args.lines.now.items c.args.place ∙ ap keys_of (sym c.remove.ensures.items)
+    c.remove-then-subsumes_keyed.ensures.items ∙ ap (λ ks. remove ks c.args.place) c.requires.keyed ∙ keys-removed c.args.lines.now.items c.args.place
+    ∙ ap keys_of (sym c.remove.ensures.items)

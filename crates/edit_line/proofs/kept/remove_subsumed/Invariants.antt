@@ -8,7 +8,8 @@ use Rattle.edit_line.proofs.kept.remove_subsumed.Given as goal
 
 abbrev pub invariant-loop-place : goal.invariant-loop-place
 invariant-loop-place l =
-    (take l.place l.lines.items ++ filter (λ (b : Derived). not (subsumes l.line b.line)) (drop l.place l.lines.items) ≡ filter (λ (b : Derived). not (subsumes l.line b.line)) l.initial.lines.items)
+    (take l.place l.lines.items ++ filter (λ (b : Derived). not (subsumes l.line b.line)) (drop l.place l.lines.items)
+    ≡ filter (λ (b : Derived). not (subsumes l.line b.line)) l.initial.lines.items)
     × (l.keys.items ≡ keys_of l.lines.items)
     × (vec_len l.initial.lines < vec_capacity l.initial.lines → vec_len l.lines < vec_capacity l.lines)
     × (vec_len l.initial.keys < vec_capacity l.initial.keys → vec_len l.keys < vec_capacity l.keys)

@@ -15,7 +15,8 @@ returns-in-None-clause-place c =
     let b_fits : FitsSigned w128 (get_or c.args.second.now i (pos 0)) = search rules in
     let is = simp to_z-of_z at c.sum_of_products.ensures in
     let before = simp to_z-of_z at c.loop-i.invariant in
-    overflow-there c.args.m c.args.n c.args.first.now c.args.second.now (c.requires.first ∙ sym c.requires.second) i _ c.loop-i-test.true is c.in-None.is before.place
+    overflow-there c.args.m c.args.n c.args.first.now c.args.second.now (c.requires.first ∙ sym c.requires.second) i _ c.loop-i-test.true is c.in-None.is
+    before.place
 
 pub loop-i-preserved : goal.loop-i-preserved
 loop-i-preserved c =
@@ -27,5 +28,12 @@ loop-i-preserved c =
     let z_fits : FitsSigned w128 c.in-Some.sum = search rules in
     let is = simp to_z-of_z at c.sum_of_products.ensures in
     let before = simp to_z-of_z at c.loop-i.invariant in
-    let more = combined-more c.args.m c.args.n c.args.first.now c.args.second.now (c.requires.first ∙ sym c.requires.second) i _ c.in-Some.sum c.loop-i.sums.items c.loop-i-test.true (sym before.count) is c.in-Some.is before.sums before.place in
-    simp to_z-of_z (record { sums = more.0; place = more.1; in_range = All-set InRange c.loop-i.sums.items i c.in-Some.sum more.2 before.in_range; count = search rules })
+    let more = combined-more c.args.m c.args.n c.args.first.now c.args.second.now (c.requires.first ∙ sym c.requires.second) i _ c.in-Some.sum
+    c.loop-i.sums.items c.loop-i-test.true (sym before.count) is c.in-Some.is before.sums before.place in
+    simp to_z-of_z (record {
+      sums = more.0;
+      place = more.1;
+      in_range = All-set InRange c.loop-i.sums.items i c.in-Some.sum more.2 before.in_range;
+      count =
+          search rules;
+    })

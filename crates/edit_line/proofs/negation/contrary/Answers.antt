@@ -12,5 +12,6 @@ over-requires c =
     let kept : FitsSigned w128 c.constant.result = search rules in
     let value = c.negative.ensures.value ∙ ap (λ (z : ℤ). neg_ℤ z) (to_z-of_z w128 c.constant.result kept ∙ c.constant.ensures.constant) in
     contrary-parts c.args.line.now _ _ _ _ _ (c.sets-fit.ensures.line)
-    c.shape.ensures (c.in_ok-sets.ensures.items ∙ c.requires) (c.in_ok-factors.ensures ∙ ap (λ (fs : List ℤ). map neg_ℤ fs) c.factors.ensures.factors) (to_z-of_z w128 c.negative.result fits ∙ value)
+    c.shape.ensures (c.in_ok-sets.ensures.items ∙ c.requires) (c.in_ok-factors.ensures ∙ ap (λ (fs : List ℤ). map neg_ℤ fs) c.factors.ensures.factors)
+    (to_z-of_z w128 c.negative.result fits ∙ value)
     (c.contrary_relation.ensures ∙ ap contrary_relation c.relation.ensures)

@@ -11,4 +11,5 @@ returns c =
     c.over.ensures
     ∙ ap (λ (s : List Domain). parts_of s c.args.sets.items c.in_ok-factors.factors.items (negsuc 0) AtLeast) c.shape.ensures
     ∙ ap (λ (fs : List ℤ). parts_of shape c.args.sets.items fs (negsuc 0) AtLeast)
-    (c.in_ok-factors.ensures.items_if_clones_equal (λ y e. e) ∙ zeros-are (number_fields shape) (length c.factors.result.now) (ap (λ (fs : List ℤ). length fs) c.factors.ensures.factors ∙ c.factors.ensures.count))
+    (c.in_ok-factors.ensures.items_if_clones_equal (λ y e. e) ∙ zeros-are (number_fields shape) (length c.factors.result.now)
+    (ap (λ (fs : List ℤ). length fs) c.factors.ensures.factors ∙ c.factors.ensures.count))

@@ -7,8 +7,10 @@ use Rattle.edit_line.proofs.reduction.reduce.Goals as goal
 
 pub returns : goal.returns
 returns c =
-    let end = YieldsList-end (YieldsList-from_vec {s = c.into_iter-line-iterator.result} c.args.lines.items (search rules) (search rules)) c.loop-line.yielded c.loop-line.line-iterator c.loop-line.yielded_by c.next.result c.next.new.self c.in-None.is c.next.ensures.steps in
-    let is : c.into_lines.result.items ≡ reduce_derived c.args.lines.items = c.into_lines.ensures ∙ c.loop-line.invariant ∙ ap reduce_derived (sym (map-id c.loop-line.yielded) ∙ end.0) in
+    let end = YieldsList-end (YieldsList-from_vec {s = c.into_iter-line-iterator.result} c.args.lines.items (search rules) (search rules)) c.loop-line.yielded
+    c.loop-line.line-iterator c.loop-line.yielded_by c.next.result c.next.new.self c.in-None.is c.next.ensures.steps in
+    let is : c.into_lines.result.items ≡ reduce_derived c.args.lines.items = c.into_lines.ensures ∙ c.loop-line.invariant
+    ∙ ap reduce_derived (sym (map-id c.loop-line.yielded) ∙ end.0) in
     record {
       exact = is;
       dropped = reduced-covers c.args.lines.items c.into_lines.result.items is;

@@ -18,4 +18,5 @@ returns-then-is_tighter-clause-follows c =
     let lie : are_subsets b.sets a.sets ≡ true = cc (c.sets.ensures.sets, c.sets-2.ensures.sets) in
     let tighter : is_tighter a b ≡ true = cc in
     λ shape equal.
-    let same : same_all a.factors b.factors ≡ true = cc (c.factors.ensures.factors, c.factors-then-is_tighter.ensures.factors, equal) in subsumes-follows a b shape (subsumes-tight a b lie same tighter)
+    let same : same_all a.factors b.factors ≡ true = cc (c.factors.ensures.factors, c.factors-then-is_tighter.ensures.factors, equal) in
+    subsumes-follows a b shape (subsumes-tight a b lie same tighter)

@@ -10,10 +10,14 @@ pub returns-in-Ok-clause-sum : goal.returns-in-Ok-clause-sum
 returns-in-Ok-clause-sum c =
     let fits : FitsSigned w128 c.args.factor = search rules in
     let apart : c.args.factor ≢ pos 0 = λ is. c.if-factor-eq0.false (ap (of_z w128) is) in
-    next-answered c.args.factor _ (value_of c.args.row.now c.args.field) c.value.result.now (ratio_of c.args.sum) c.with_value.result apart (to_z-of_z w128 c.args.factor fits) c.value.ensures c.with_value.ensures c.in-Ok.next c.in-Ok.is
+    next-answered c.args.factor _ (value_of c.args.row.now c.args.field) c.value.result.now (ratio_of c.args.sum) c.with_value.result apart
+    (to_z-of_z w128 c.args.factor fits) c.value.ensures c.with_value.ensures c.in-Ok.next c.in-Ok.is
 
 pub returns-in-Err-clause-overflow : goal.returns-in-Err-clause-overflow
 returns-in-Err-clause-overflow c =
     let fits : FitsSigned w128 c.args.factor = search rules in
-    let apart : c.args.factor ≢ pos 0 = λ is. c.if-factor-eq0.false (ap (of_z w128) is) in
-    (refl, next-overflow c.args.factor _ (value_of c.args.row.now c.args.field) c.value.result.now (ratio_of c.args.sum) c.with_value.result apart (to_z-of_z w128 c.args.factor fits) c.value.ensures c.with_value.ensures _ c.in-Err.is)
+    let apart : c.args.factor ≢ pos 0 = λ is. c.if-factor-eq0.false (ap (of_z w128) is) in (
+      refl,
+      next-overflow c.args.factor _ (value_of c.args.row.now c.args.field) c.value.result.now (ratio_of c.args.sum) c.with_value.result apart
+          (to_z-of_z w128 c.args.factor fits) c.value.ensures c.with_value.ensures _ c.in-Err.is,
+    )

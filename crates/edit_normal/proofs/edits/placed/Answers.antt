@@ -9,7 +9,8 @@ use Rattle.edit_normal.proofs.edits.placed.Goals as goal
 pub overflow_add-number : goal.overflow_add-number
 overflow_add-number c =
     let list = YieldsList-from_vec {s = c.into_iter-rule_line-iterator.result} c.args.rule_lines.items (search rules) (search rules) in
-    let turn = YieldsList-turn list c.loop-rule_line.yielded c.loop-rule_line.rule_line-iterator c.loop-rule_line.yielded_by c.next.result c.next.new.self c.in-Some.rule_line c.in-Some.is c.next.ensures.steps in
+    let turn = YieldsList-turn list c.loop-rule_line.yielded c.loop-rule_line.rule_line-iterator c.loop-rule_line.yielded_by c.next.result c.next.new.self
+    c.in-Some.rule_line c.in-Some.is c.next.ensures.steps in
     omega (arith, turn.0, c.loop-rule_line.invariant.2, c.requires)
 
 pub loop-rule_line-preserved : goal.loop-rule_line-preserved
@@ -23,5 +24,7 @@ loop-rule_line-preserved c = (
 pub returns : goal.returns
 returns c =
     let list = YieldsList-from_vec {s = c.into_iter-rule_line-iterator.result} c.args.rule_lines.items (search rules) (search rules) in
-    let end = YieldsList-end list c.loop-rule_line.yielded c.loop-rule_line.rule_line-iterator c.loop-rule_line.yielded_by c.next.result c.next.new.self c.in-None.is c.next.ensures.steps in
-    c.loop-rule_line.invariant.3 ∙ ap (λ (ls : List RuleLine). placed_from 0 (map (λ (r : RuleLine). r.line) ls)) (sym (map-id c.loop-rule_line.yielded) ∙ end.0)
+    let end = YieldsList-end list c.loop-rule_line.yielded c.loop-rule_line.rule_line-iterator c.loop-rule_line.yielded_by c.next.result c.next.new.self
+    c.in-None.is c.next.ensures.steps in
+    c.loop-rule_line.invariant.3 ∙ ap (λ (ls : List RuleLine). placed_from 0 (map (λ (r : RuleLine). r.line) ls))
+    (sym (map-id c.loop-rule_line.yielded) ∙ end.0)

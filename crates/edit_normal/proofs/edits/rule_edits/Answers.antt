@@ -13,9 +13,11 @@ placed-requires c = omega (arith, c.in_ok-normal_lines.ensures.most, c.rules-rul
 pub new-requires : goal.new-requires
 new-requires c =
     let shape = shape_of c.args.survey.now.fields in
-    subst (λ (es : List (ℕ × LineParts)). AreEdits shape es) (sym c.in_ok-lines.ensures) (placed-edits shape (map (λ (l : RuleLine). l.line) c.in_ok-normal_lines.field-0.items) c.in_ok-normal_lines.ensures.over)
+    subst (λ (es : List (ℕ × LineParts)). AreEdits shape es) (sym c.in_ok-lines.ensures)
+    (placed-edits shape (map (λ (l : RuleLine). l.line) c.in_ok-normal_lines.field-0.items) c.in_ok-normal_lines.ensures.over)
 
 pub returns-clause-same : goal.returns-clause-same
 returns-clause-same c p =
-    let lines = ap (λ (e : EditsParts). e.lines) c.in_ok-edits.ensures ∙ c.in_ok-lines.ensures ∙ ap (λ (ls : List LineParts). placed_from 0 ls) c.in_ok-normal_lines.ensures.lines in
+    let lines = ap (λ (e : EditsParts). e.lines) c.in_ok-edits.ensures ∙ c.in_ok-lines.ensures
+    ∙ ap (λ (ls : List LineParts). placed_from 0 ls) c.in_ok-normal_lines.ensures.lines in
     edits-mean c.args.survey.now _ c.rules-rules.ensures.well_formed lines p

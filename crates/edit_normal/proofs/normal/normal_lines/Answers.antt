@@ -11,19 +11,24 @@ use Rattle.edit_normal.proofs.normal.normal_lines.Goals as goal
 pub push_rule-requires : goal.push_rule-requires
 push_rule-requires c =
     let survey = c.args.survey.now in
-    let codes = rule-codes survey.fields survey.rules c.rules-rule-items.result.now c.in_ok-fields.fields c.loop-number.number c.rule-item.result c.in_ok-fields.ensures c.rules-rule-items.ensures.rules c.rules-rule-items.ensures.well_formed.rules c.loop-number-test.true c.rule-item.is in
+    let codes = rule-codes survey.fields survey.rules c.rules-rule-items.result.now c.in_ok-fields.fields c.loop-number.number c.rule-item.result
+    c.in_ok-fields.ensures c.rules-rule-items.ensures.rules c.rules-rule-items.ensures.well_formed.rules c.loop-number-test.true c.rule-item.is in
     record { conditions = codes.0; conclusion = codes.1 }
 
 pub loop-number-preserved : goal.loop-number-preserved
 loop-number-preserved c =
     let survey = c.args.survey.now in
-    rule-more (shape_of survey.fields) c.in_ok-fields.fields survey.rules c.rules-rule-items.result.now c.loop-number.number c.rule-item.result c.loop-number.lines.items c.push_rule.new.lines.items _ c.in_ok-fields.ensures c.rules-rule-items.ensures.rules c.loop-number-test.true c.rule-item.is c.in_ok-push_rule.ensures c.loop-number.invariant
+    rule-more (shape_of survey.fields) c.in_ok-fields.fields survey.rules c.rules-rule-items.result.now c.loop-number.number c.rule-item.result
+    c.loop-number.lines.items c.push_rule.new.lines.items _ c.in_ok-fields.ensures c.rules-rule-items.ensures.rules c.loop-number-test.true c.rule-item.is
+    c.in_ok-push_rule.ensures c.loop-number.invariant
 
 pub returns : goal.returns
 returns c =
     let survey = c.args.survey.now in
-    let past : length survey.rules ≤ c.loop-number.number = subst (λ (rs : List Rule). length rs ≤ c.loop-number.number) c.rules-rule-items.ensures.rules c.loop-number-test.false in
-    let is : c.loop-number.lines.items ≡ rule_lines_from (shape_of survey.fields) 0 survey.rules = rules-end (shape_of survey.fields) survey.rules c.loop-number.number c.loop-number.lines.items _ past c.loop-number.invariant in
+    let past : length survey.rules ≤ c.loop-number.number = subst (λ (rs : List Rule). length rs ≤ c.loop-number.number) c.rules-rule-items.ensures.rules
+    c.loop-number-test.false in
+    let is : c.loop-number.lines.items ≡ rule_lines_from (shape_of survey.fields) 0 survey.rules =
+    rules-end (shape_of survey.fields) survey.rules c.loop-number.number c.loop-number.lines.items _ past c.loop-number.invariant in
     record {
       exact = is;
       lines = lines-all survey c.loop-number.lines.items is;

@@ -23,12 +23,17 @@ returns-in-Number c =
     let item = c.condition-item.result in
     let below : i < length conditions = subst (λ (ts : List Test). i < length ts) c.as_slice-condition-items.ensures c.loop-condition-test.true in
     let here : item ≡ get_or conditions i item = subst (λ (ts : List Test). item ≡ get_or ts i item) c.as_slice-condition-items.ensures c.condition-item.is in
-    let are = condition-ends c.args.fields.now c.loop-condition.sets.items conditions c.args.rule.now.conclusion item c.in-Number.linear i _ below here c.in-Number.is c.loop-condition.invariant.same in
-    joined-from c.push_condition.result c.push_condition.new.lines.items c.loop-condition.lines.items c.args.lines.now.items c.args.number _ _ c.loop-condition.invariant.unchanged are c.push_condition.ensures
+    let are = condition-ends c.args.fields.now c.loop-condition.sets.items conditions c.args.rule.now.conclusion item c.in-Number.linear i _ below here
+    c.in-Number.is c.loop-condition.invariant.same in
+    joined-from c.push_condition.result c.push_condition.new.lines.items c.loop-condition.lines.items c.args.lines.now.items c.args.number _ _
+    c.loop-condition.invariant.unchanged are c.push_condition.ensures
 
 pub returns : goal.returns
 returns c =
     let conditions = c.args.rule.now.conditions in
-    let past : length conditions ≤ c.loop-condition.condition-index = subst (λ (ts : List Test). length ts ≤ c.loop-condition.condition-index) c.as_slice-condition-items.ensures c.loop-condition-test.false in
-    let are = conditions-end c.args.fields.now c.loop-condition.sets.items conditions c.args.rule.now.conclusion c.loop-condition.condition-index _ past c.loop-condition.invariant.same in
-    joined-from c.push_conclusion.result c.push_conclusion.new.lines.items c.loop-condition.lines.items c.args.lines.now.items c.args.number _ _ c.loop-condition.invariant.unchanged are c.push_conclusion.ensures
+    let past : length conditions ≤ c.loop-condition.condition-index = subst (λ (ts : List Test). length ts ≤ c.loop-condition.condition-index)
+    c.as_slice-condition-items.ensures c.loop-condition-test.false in
+    let are = conditions-end c.args.fields.now c.loop-condition.sets.items conditions c.args.rule.now.conclusion c.loop-condition.condition-index _ past
+    c.loop-condition.invariant.same in
+    joined-from c.push_conclusion.result c.push_conclusion.new.lines.items c.loop-condition.lines.items c.args.lines.now.items c.args.number _ _
+    c.loop-condition.invariant.unchanged are c.push_conclusion.ensures

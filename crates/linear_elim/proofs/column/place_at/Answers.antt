@@ -14,8 +14,12 @@ loop-i-preserved c =
     let i = c.loop-i.i in
     let counts = c.args.counts.now in
     elim c.if-count-eq0.branch [
-      | then-count-eq0+else-left-eq0 w ↦ ap (λ n. name_from counts (i + 1) n) w.left-is ∙ sym (name-moves counts i c.loop-i.left (get_or counts i 0) c.loop-i-test.true (search rules) w.if-count-eq0.true w.if-left-eq0.false) ∙ c.loop-i.invariant
-      | else-count-eq0 w ↦ ap (λ n. name_from counts (i + 1) n) w.left-is ∙ sym (name-skips counts i c.loop-i.left (get_or counts i 0) c.loop-i-test.true (search rules) (omega (arith, w.if-count-eq0.false))) ∙ c.loop-i.invariant
+      | then-count-eq0+else-left-eq0 w ↦ ap (λ n. name_from counts (i + 1) n) w.left-is
+          ∙ sym (name-moves counts i c.loop-i.left (get_or counts i 0) c.loop-i-test.true (search rules) w.if-count-eq0.true w.if-left-eq0.false)
+          ∙ c.loop-i.invariant
+      | else-count-eq0 w ↦ ap (λ n. name_from counts (i + 1) n) w.left-is
+          ∙ sym (name-skips counts i c.loop-i.left (get_or counts i 0) c.loop-i-test.true (search rules) (omega (arith, w.if-count-eq0.false)))
+          ∙ c.loop-i.invariant
     ]
 
 pub returns : goal.returns

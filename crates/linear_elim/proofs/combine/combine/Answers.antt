@@ -14,7 +14,8 @@ returns-in-Some-clause-exact c =
     let n_fits : FitsSigned w128 c.of-by.result.second = search rules in
     let by = simp to_z-of_z at c.of-by.ensures in
     let told = simp to_z-of_z at c.in-Some.ensures in
-    combination-leaves c.args.s.now c.args.t.now c.args.column.now.field c.factor.result c.factor-2.result c.of-by.result.first c.of-by.result.second c.factor.ensures.value c.factor-2.ensures.value by.first by.second c.in-Some.place told.place
+    combination-leaves c.args.s.now c.args.t.now c.args.column.now.field c.factor.result c.factor-2.result c.of-by.result.first c.of-by.result.second
+    c.factor.ensures.value c.factor-2.ensures.value by.first by.second c.in-Some.place told.place
 
 pub returns-in-None-clause-exact : goal.returns-in-None-clause-exact
 returns-in-None-clause-exact c =
@@ -25,8 +26,10 @@ returns-in-None-clause-exact c =
     let g_fits : FitsSigned w128 c.reduce_numbers-g.result = search rules in
     let by = simp to_z-of_z at c.of-by.ensures in
     let told = simp to_z-of_z at c.in-None.ensures in
-    combination-stands c.args.s.now c.args.t.now c.args.column.now.field c.factor.result c.factor-2.result c.of-by.result.first c.of-by.result.second c.factor.ensures.value c.factor-2.ensures.value by.first by.second
-    c.write_sum.new.self c.reduce_numbers-g.new.self _ _ c.reduce_numbers-g.result _ told.place (told.sum refl) c.reduce_numbers-g.ensures.line c.reduce_numbers-g.ensures.divisor
+    combination-stands c.args.s.now c.args.t.now c.args.column.now.field c.factor.result c.factor-2.result c.of-by.result.first c.of-by.result.second
+    c.factor.ensures.value c.factor-2.ensures.value by.first by.second
+    c.write_sum.new.self c.reduce_numbers-g.new.self _ _ c.reduce_numbers-g.result _ told.place (told.sum refl) c.reduce_numbers-g.ensures.line
+    c.reduce_numbers-g.ensures.divisor
     (to_z-of_z w128 c.of-by.result.first m_fits) (to_z-of_z w128 c.of-by.result.second n_fits) (to_z-of_z w128 c.reduce_numbers-g.result g_fits)
 
 pub returns-in-None-clause-over : goal.returns-in-None-clause-over

@@ -24,7 +24,8 @@ reduced_step-requires-clause-shape g c =
 pub reduced_step-requires-clause-own : goal.reduced_step-requires-clause-own
 reduced_step-requires-clause-own g c =
     let system = c.args.system.now in
-    system-own system.edits system.fields c.args.field c.requires.numerical c.requires.past c.lines.result.now (c.lines.ensures.system.lines_are ∙ ap (λ (ls : List Derived). Ok ls) (sym c.lines.ensures.lines))
+    system-own system.edits system.fields c.args.field c.requires.numerical c.requires.past c.lines.result.now
+    (c.lines.ensures.system.lines_are ∙ ap (λ (ls : List Derived). Ok ls) (sym c.lines.ensures.lines))
 
 pub extended-requires-clause-lines : goal.extended-requires-clause-lines
 extended-requires-clause-lines g c =
@@ -56,7 +57,8 @@ module _ (g : given.Over) (c : goal.After-at_field g) where
       let lines_are = c.lines.ensures.system.lines_are ∙ ap (λ (ls : List Derived). Ok ls) (sym c.lines.ensures.lines) in
       subst (λ (told : Option SystemOverflow). IfSome told (λ f. here ≡ Err f)) (sym c.at_field.ensures)
       (if_mapped (λ f. step_result c.lines.result.now c.args.field ≡ Err f) (λ f. here ≡ Err f) (overflow_at c.args.field) (told_step c.in-Err.fault)
-      (λ f stopped. step-stops system.edits system.fields c.args.field c.requires.numerical c.requires.past c.lines.result.now lines_are f stopped) c.in-Err.ensures.exact)
+      (λ f stopped. step-stops system.edits system.fields c.args.field c.requires.numerical c.requires.past c.lines.result.now lines_are f stopped)
+      c.in-Err.ensures.exact)
 
 pub returns-in-Err-clause-exact : goal.returns-in-Err-clause-exact
 returns-in-Err-clause-exact g c = stops g c
@@ -64,4 +66,5 @@ returns-in-Err-clause-exact g c = stops g c
 pub returns-in-Err-clause-overflow : goal.returns-in-Err-clause-overflow
 returns-in-Err-clause-overflow g c =
     let system = c.args.system.now in
-    if_told (told_system c.at_field.result) (λ o is. system-overflows system.edits.lines (chosen_fields system.edits.shape (with_number system.fields c.args.field)) o is) (stops g c)
+    if_told (told_system c.at_field.result) (λ o is. system-overflows system.edits.lines
+    (chosen_fields system.edits.shape (with_number system.fields c.args.field)) o is) (stops g c)

@@ -4,5 +4,6 @@ use Rattle.linear_elim.proofs.pair_count.opposite_pairs.Given as goal
 
 abbrev pub invariant-loop-s : goal.invariant-loop-s
 invariant-loop-s l =
-    (l.pairs + rows_count l.column.field l.lines (drop l.s-index l.lines) ≡ rows_count l.column.field l.lines l.lines)
-    × (l.pairs ≤ l.s-index * length l.lines)
+    (l.pairs + rows_count l.given.column.field l.given.lines.now (drop l.s-index l.given.lines.now)
+    ≡ rows_count l.given.column.field l.given.lines.now l.given.lines.now)
+    × (l.pairs ≤ l.s-index * length l.given.lines.now)

@@ -9,7 +9,8 @@ pub returns-in-Some-first_equality-clause-made : goal.returns-in-Some-first_equa
 returns-in-Some-first_equality-clause-made c =
     let lines = c.args.lines.now in
     let field = c.of-column.ensures.field in
-    let counted = c.substitutions.ensures ∙ sym (equality-count c.of-column.result.field lines c.in-Some-first_equality.place c.in-Some-first_equality.ensures.some) in
+    let counted = c.substitutions.ensures ∙ sym (equality-count c.of-column.result.field lines c.in-Some-first_equality.place
+    c.in-Some-first_equality.ensures.some) in
     counted ∙ pairs-are lines c.of-column.result.field ∙ ap (λ f. length (made (lines_of lines) f)) field
 
 pub returns-in-None-clause-made : goal.returns-in-None-clause-made

@@ -5,5 +5,6 @@ use Rattle.linear_elim.proofs.pair_count.row_pairs.Given as goal
 
 abbrev pub invariant-loop-t : goal.invariant-loop-t
 invariant-loop-t l =
-    (l.count + length (filter (λ (t : Derived). is_opposite l.column.field l.s.line t.line) (drop l.t-index l.lines)) ≡ length (filter (λ (t : Derived). is_opposite l.column.field l.s.line t.line) l.lines))
+    (l.count + length (filter (λ (t : Derived). is_opposite l.given.column.field l.s.line t.line) (drop l.t-index l.given.lines.now))
+    ≡ length (filter (λ (t : Derived). is_opposite l.given.column.field l.s.line t.line) l.given.lines.now))
     × (l.count ≤ l.t-index)

@@ -3,4 +3,4 @@ use Rattle.linear_elim.specs.Steps.{equality_from}
 use Rattle.linear_elim.proofs.substitution.first_equality.Given as goal
 
 abbrev pub invariant-loop-place : goal.invariant-loop-place
-invariant-loop-place l = equality_from l.column.field l.place (drop l.place l.lines) ≡ equality_from l.column.field 0 l.lines
+invariant-loop-place l = equality_from l.given.column.field l.place (drop l.place l.given.lines.now) ≡ equality_from l.given.column.field 0 l.given.lines.now

@@ -15,10 +15,12 @@ admits_codes-requires-clause-count c =
     ∙ sym (ap length (same_codes c.codes.result.now c.args.survey.now.fields line.shape c.codes.ensures c.requires.shape))
 
 pub admits_codes-requires-clause-within : goal.admits_codes-requires-clause-within
-admits_codes-requires-clause-within c = kind-within (λ k. not (is_numerical k)) c.args.survey.now.fields c.args.row.now c.codes.result.now c.requires.row c.codes.ensures
+admits_codes-requires-clause-within c = kind-within (λ k. not (is_numerical k)) c.args.survey.now.fields c.args.row.now c.codes.result.now c.requires.row
+    c.codes.ensures
 
 pub returns : goal.returns
 returns c =
     let line = c.args.self.now in
     c.admits_codes.ensures ∙ ap (λ (ss : List ℕ). are_codes_in ss (codes_of_row c.args.row.now c.codes.result.now)) c.sets.ensures.sets
-    ∙ ap (λ (fs : List ℕ). are_codes_in line.sets (codes_of_row c.args.row.now fs)) (same_codes c.codes.result.now c.args.survey.now.fields line.shape c.codes.ensures c.requires.shape)
+    ∙ ap (λ (fs : List ℕ). are_codes_in line.sets (codes_of_row c.args.row.now fs)) (same_codes c.codes.result.now c.args.survey.now.fields line.shape
+    c.codes.ensures c.requires.shape)

@@ -14,5 +14,6 @@ invariant_of-self c =
     let line = parts_of (domains inside.shape) inside.sets.items inside.factors.items inside.constant inside.relation in
     let is =
     divided-is line c.args.divisor _ c.divide_all.new.numbers.items _ c.quotient-self-inside.result _
-    (to_z-of_z w128 c.args.divisor c.ranges.divisor) (to_z-of_z w128 inside.constant constant_fits) c.divide_all.ensures c.quotient-self-inside.ensures (to_z-of_z w128 c.quotient-self-inside.result quotient_fits) in
+    (to_z-of_z w128 c.args.divisor c.ranges.divisor) (to_z-of_z w128 inside.constant constant_fits) c.divide_all.ensures c.quotient-self-inside.ensures
+    (to_z-of_z w128 c.quotient-self-inside.result quotient_fits) in
     subst (λ (l : LineParts). IsLine l) (sym is) (IsLine-divided line c.args.divisor c.requires c.self.invariant)

@@ -15,7 +15,8 @@ copy_from_slice-requires c =
     let shape = c.requires.s_over ∙ sym (ap (λ (l : LineParts). l.shape) c.self.view_is) in
     let same : length c.self.inside.sets.items ≡ length c.sets.result.now = sym (
     ap length c.sets.ensures.sets
-    ∙ same-sets c.args.s.now.sets c.self.inside.sets.items (whole_sets c.args.s.now.shape) c.sets.ensures.fit (subst (λ (sh : List Domain). AreSets c.self.inside.sets.items (whole_sets sh)) (sym shape) c.self.invariant.sets)
+    ∙ same-sets c.args.s.now.sets c.self.inside.sets.items (whole_sets c.args.s.now.shape) c.sets.ensures.fit
+    (subst (λ (sh : List Domain). AreSets c.self.inside.sets.items (whole_sets sh)) (sym shape) c.self.invariant.sets)
     ) in
     search rules
 
@@ -25,7 +26,8 @@ narrow-requires c =
     let first = c.sets.ensures in
     let second = c.sets-in-Some-sum_of_products.ensures in
     ap length second.sets
-    ∙ same-sets c.args.t.now.sets c.args.s.now.sets (whole_sets c.args.t.now.shape) second.fit (subst (λ (sh : List Domain). AreSets c.args.s.now.sets (whole_sets sh)) (sym shape) first.fit)
+    ∙ same-sets c.args.t.now.sets c.args.s.now.sets (whole_sets c.args.t.now.shape) second.fit
+    (subst (λ (sh : List Domain). AreSets c.args.s.now.sets (whole_sets sh)) (sym shape) first.fit)
     ∙ sym (ap length (c.copy_from_slice.ensures.items ∙ first.sets))
 
 pub returns-in-Some-clause-place : goal.returns-in-Some-clause-place
@@ -33,7 +35,8 @@ returns-in-Some-clause-place c =
     let m_fits = c.ranges.m in
     let n_fits = c.ranges.n in
     let told = simp to_z-of_z at c.in-Some.ensures in
-    place-first c.args.m c.args.n c.args.s.now c.args.t.now c.factors.result.now c.factors-2.result.now c.factors.ensures.factors c.factors-2.ensures.factors (search rules) c.in-Some.place told.place
+    place-first c.args.m c.args.n c.args.s.now c.args.t.now c.factors.result.now c.factors-2.result.now c.factors.ensures.factors c.factors-2.ensures.factors
+    (search rules) c.in-Some.place told.place
 
 pub returns-in-None-sum_of_products-clause-place : goal.returns-in-None-sum_of_products-clause-place
 returns-in-None-sum_of_products-clause-place c =
@@ -43,8 +46,10 @@ returns-in-None-sum_of_products-clause-place c =
     let b_fits : FitsSigned w128 c.constant-in-None.result = search rules in
     let told = simp to_z-of_z at c.in-None.ensures in
     let sum_is = simp to_z-of_z at c.sum_of_products.ensures in
-    place-last c.args.m c.args.n c.args.s.now c.args.t.now c.factors.result.now c.factors-2.result.now c.factors.ensures.factors c.factors-2.ensures.factors (search rules) told.place
-    c.constant.result c.constant-in-None.result _ c.constant.ensures.constant c.constant-in-None.ensures.constant sum_is c.len.result (search rules) c.in-None-sum_of_products.is
+    place-last c.args.m c.args.n c.args.s.now c.args.t.now c.factors.result.now c.factors-2.result.now c.factors.ensures.factors c.factors-2.ensures.factors
+    (search rules) told.place
+    c.constant.result c.constant-in-None.result _ c.constant.ensures.constant c.constant-in-None.ensures.constant sum_is c.len.result (search rules)
+    c.in-None-sum_of_products.is
 
 pub returns-in-Some-sum_of_products-clause-place : goal.returns-in-Some-sum_of_products-clause-place
 returns-in-Some-sum_of_products-clause-place c =
@@ -55,8 +60,10 @@ returns-in-Some-sum_of_products-clause-place c =
     let told = simp to_z-of_z at c.in-None.ensures in
     let sum_is = simp to_z-of_z at c.sum_of_products.ensures in
     let is =
-    no-place c.args.m c.args.n c.args.s.now c.args.t.now c.factors.result.now c.factors-2.result.now c.factors.ensures.factors c.factors-2.ensures.factors (search rules) told.place
-    c.constant.result c.constant-in-None.result _ c.constant.ensures.constant c.constant-in-None.ensures.constant sum_is c.in-Some-sum_of_products.constant c.in-Some-sum_of_products.is in
+    no-place c.args.m c.args.n c.args.s.now c.args.t.now c.factors.result.now c.factors-2.result.now c.factors.ensures.factors c.factors-2.ensures.factors
+    (search rules) told.place
+    c.constant.result c.constant-in-None.result _ c.constant.ensures.constant c.constant-in-None.ensures.constant sum_is c.in-Some-sum_of_products.constant
+    c.in-Some-sum_of_products.is in
     is.0
 
 pub returns-in-Some-sum_of_products-clause-sum : goal.returns-in-Some-sum_of_products-clause-sum
@@ -72,12 +79,15 @@ returns-in-Some-sum_of_products-clause-sum c = λ _.
     let sum_is = simp to_z-of_z at c.sum_of_products.ensures in
     let is =
     no-place c.args.m c.args.n s t c.factors.result.now c.factors-2.result.now c.factors.ensures.factors c.factors-2.ensures.factors (search rules) told.place
-    c.constant.result c.constant-in-None.result _ c.constant.ensures.constant c.constant-in-None.ensures.constant sum_is c.in-Some-sum_of_products.constant c.in-Some-sum_of_products.is in
+    c.constant.result c.constant-in-None.result _ c.constant.ensures.constant c.constant-in-None.ensures.constant sum_is c.in-Some-sum_of_products.constant
+    c.in-Some-sum_of_products.is in
     let shape = sym (ap (λ (l : LineParts). l.shape) c.self.view_is) in
-    let sets_are = c.narrow.ensures ∙ (λ i. in_both ((c.copy_from_slice.ensures.items ∙ c.sets.ensures.sets) i) (c.sets-in-Some-sum_of_products.ensures.sets i)) in
+    let sets_are = c.narrow.ensures
+    ∙ (λ i. in_both ((c.copy_from_slice.ensures.items ∙ c.sets.ensures.sets) i) (c.sets-in-Some-sum_of_products.ensures.sets i)) in
     let factors_are = told.sums refl ∙ (λ i. combined c.args.m c.args.n (c.factors.ensures.factors i) (c.factors-2.ensures.factors i)) in
     let relation_is = c.joined-self-inside.ensures ∙ (λ i. joined (c.relation.ensures i) (c.relation-in-Some-sum_of_products.ensures i)) in
-    sum-is (domains c.self.inside.shape) c.args.m c.args.n _ s t c.narrow.new.sets.items c.write_sums.new.sums.items c.joined-self-inside.result (c.requires.s_over ∙ shape) sets_are factors_are
+    sum-is (domains c.self.inside.shape) c.args.m c.args.n _ s t c.narrow.new.sets.items c.write_sums.new.sums.items c.joined-self-inside.result
+    (c.requires.s_over ∙ shape) sets_are factors_are
     (to_z-of_z w128 c.in-Some-sum_of_products.constant z_fits ∙ is.1) relation_is
 
 pub invariant_of-self-in-Some-sum_of_products : goal.invariant_of-self-in-Some-sum_of_products
@@ -93,8 +103,12 @@ invariant_of-self-in-Some-sum_of_products c =
     let sum_is = simp to_z-of_z at c.sum_of_products.ensures in
     let is =
     no-place c.args.m c.args.n s t c.factors.result.now c.factors-2.result.now c.factors.ensures.factors c.factors-2.ensures.factors (search rules) told.place
-    c.constant.result c.constant-in-None.result _ c.constant.ensures.constant c.constant-in-None.ensures.constant sum_is c.in-Some-sum_of_products.constant c.in-Some-sum_of_products.is in
+    c.constant.result c.constant-in-None.result _ c.constant.ensures.constant c.constant-in-None.ensures.constant sum_is c.in-Some-sum_of_products.constant
+    c.in-Some-sum_of_products.is in
     let shape = sym (ap (λ (l : LineParts). l.shape) c.self.view_is) in
-    let sets_are = c.narrow.ensures ∙ (λ i. in_both ((c.copy_from_slice.ensures.items ∙ c.sets.ensures.sets) i) (c.sets-in-Some-sum_of_products.ensures.sets i)) in
+    let sets_are = c.narrow.ensures
+    ∙ (λ i. in_both ((c.copy_from_slice.ensures.items ∙ c.sets.ensures.sets) i) (c.sets-in-Some-sum_of_products.ensures.sets i)) in
     let relation_is = c.joined-self-inside.ensures ∙ (λ i. joined (c.relation.ensures i) (c.relation-in-Some-sum_of_products.ensures i)) in
-    simp to_z-of_z (sum-line (domains c.self.inside.shape) c.in-Some-sum_of_products.constant s t c.narrow.new.sets.items c.write_sums.new.sums.items c.joined-self-inside.result (c.requires.s_over ∙ shape) (c.requires.t_over ∙ shape) sets_are relation_is c.sets.ensures.line c.sets-in-Some-sum_of_products.ensures.line c.requires.meet (told.count ∙ c.self.invariant.factors) told.in_range is.2)
+    simp to_z-of_z (sum-line (domains c.self.inside.shape) c.in-Some-sum_of_products.constant s t c.narrow.new.sets.items c.write_sums.new.sums.items
+    c.joined-self-inside.result (c.requires.s_over ∙ shape) (c.requires.t_over ∙ shape) sets_are relation_is c.sets.ensures.line
+    c.sets-in-Some-sum_of_products.ensures.line c.requires.meet (told.count ∙ c.self.invariant.factors) told.in_range is.2)

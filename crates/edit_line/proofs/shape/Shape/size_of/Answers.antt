@@ -5,4 +5,5 @@ pub returns-then-place-counts-clause-size : goal.returns-then-place-counts-claus
 returns-then-place-counts-clause-size c = size_of-is _ c.code_counts-counts.result.now c.args.field c.code_counts-counts.ensures.domains
 
 pub returns-else-place-counts-clause-size : goal.returns-else-place-counts-clause-size
-returns-else-place-counts-clause-size c = size_of-past _ c.code_counts-counts.result.now c.args.field c.code_counts-counts.ensures.domains c.if-place-counts.false
+returns-else-place-counts-clause-size c = size_of-past _ c.code_counts-counts.result.now c.args.field c.code_counts-counts.ensures.domains
+    c.if-place-counts.false

@@ -11,10 +11,12 @@ returns-in-Some-clause-value c =
     let column = c.args.self.now in
     let place_is = column.at ∙ ap (λ shape. place_in (number_fields shape) column.field) (sym c.requires) in
     let fits : FitsSigned w128 c.in-Some.factor.now = search rules in
-    to_z-of_z w128 c.in-Some.factor.now fits ∙ factor-place c.args.line.now c.factors.result.now column.field column.place c.in-Some.factor.now c.factors.ensures.factors c.factors.ensures.count place_is (x.3.1 (pos 0))
+    to_z-of_z w128 c.in-Some.factor.now fits ∙ factor-place c.args.line.now c.factors.result.now column.field column.place c.in-Some.factor.now
+    c.factors.ensures.factors c.factors.ensures.count place_is (x.3.1 (pos 0))
 
 pub returns-in-None-clause-value : goal.returns-in-None-clause-value
 returns-in-None-clause-value c =
     let column = c.args.self.now in
     let place_is = column.at ∙ ap (λ shape. place_in (number_fields shape) column.field) (sym c.requires) in
-    factor-place c.args.line.now c.factors.result.now column.field column.place (pos 0) c.factors.ensures.factors c.factors.ensures.count place_is (past-end c.factors.result.now column.place c.in-None.ensures.lookup.0)
+    factor-place c.args.line.now c.factors.result.now column.field column.place (pos 0) c.factors.ensures.factors c.factors.ensures.count place_is
+    (past-end c.factors.result.now column.place c.in-None.ensures.lookup.0)

@@ -10,7 +10,8 @@ pub with-requires : goal.with-requires
 with-requires c =
     let shape = c.args.self.now.edits.shape in
     let below = numerical-from 0 c.args.field shape c.requires in
-    let is = c.code_counts-counts.ensures.domains ∙ c.shape-shape.ensures ∙ ap (λ (e : EditsParts). e.shape) c.deref.ensures ∙ ap (λ (s : SystemParts). s.edits.shape) c.self.view_is in
+    let is = c.code_counts-counts.ensures.domains ∙ c.shape-shape.ensures ∙ ap (λ (e : EditsParts). e.shape) c.deref.ensures
+    ∙ ap (λ (s : SystemParts). s.edits.shape) c.self.view_is in
     let as_many = ap (λ (s : List Domain). length s) is in
     let mapped = length-map c.code_counts-counts.result.now domain_with in
     omega (arith, below, as_many, mapped, c.code_counts-counts.ensures.few)
