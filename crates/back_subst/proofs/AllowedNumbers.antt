@@ -1,4 +1,5 @@
-use Rattle.std.proofs.Common.{◌≡◌, ◌≢◌, ◌↔◌, ℕ, zero, suc, ◌<◌, ◌==◌, ◌||◌, Bool, true, false, if◌then◌else◌, List, ◌∷◌, All, length, ℤ, pos, ◌<ℤ◌, ◌+ℤ◌, ◌*ℤ◌, refl, sym, ap, ◌∙◌, subst, arith}
+use Rattle.std.proofs.Common.{◌≡◌, ◌≢◌, ◌↔◌, ℕ, zero, suc, ◌<◌, ◌==◌, ◌||◌, Bool, true, false, if◌then◌else◌, List, ◌∷◌, All, length, ℤ, pos, ◌<ℤ◌}
+use Rattle.std.proofs.Common.{◌+ℤ◌, ◌*ℤ◌, refl, sym, ap, ◌∙◌, subst, arith}
 use Rattle.std.specs.Ordering.{int_eq}
 use Rattle.std.proofs.lemmas.Bool.Decides.{Decides-eqb, Decides-int_eq}
 use Rattle.fraction128.specs.Formulas.{Ratio}
@@ -21,7 +22,8 @@ use Rattle.back_subst.specs.Allowed.{AllowsNumber, Completes}
 use Rattle.back_subst.specs.inner.Bounds.{DecideFor}
 use Rattle.edit_line.proofs.FactorLaws.{factor-numerical}
 use Rattle.linear_elim.proofs.PointLaws.{number-no_code}
-use Rattle.back_subst.proofs.FieldPoints.{Agrees-carried, HasCodesFrom-same, SameNumber, SameNumber-sym, SameNumber-trans, apart-absent, both-code, both-number, code-at, absent-apart, number-at, number-listed}
+use Rattle.back_subst.proofs.FieldPoints.{Agrees-carried, HasCodesFrom-same, SameNumber, SameNumber-sym, SameNumber-trans, apart-absent, both-code}
+use Rattle.back_subst.proofs.FieldPoints.{both-number, code-at, absent-apart, number-at, number-listed}
 
 -- The numbers that a field may be given are those within the bounds of the lines of the system of the numerical fields that are left after it.
 
@@ -40,7 +42,8 @@ mixed-differs fields p q = record { codes = λ i outside. refl; numbers = λ i o
     turned : (x d e : ℤ) → x *ℤ e *ℤ d ≡ x *ℤ (d *ℤ e)
     turned x d e = rw (parts x, parts d, parts e) (simp ring (same_dif _ _ _ _ (omega arith)))
 
-    by : (i : ℕ) (b : Bool) → b ≡ false → (if b then q.numerator i *ℤ p.denominator else p.numerator i *ℤ q.denominator) *ℤ p.denominator ≡ p.numerator i *ℤ (p.denominator *ℤ q.denominator)
+    by : (i : ℕ) (b : Bool) → b ≡ false → (if b then q.numerator i *ℤ p.denominator else p.numerator i *ℤ q.denominator) *ℤ p.denominator
+        ≡ p.numerator i *ℤ (p.denominator *ℤ q.denominator)
     by i true e = absurd (cc)
     by i false e = turned (p.numerator i) p.denominator q.denominator
 
@@ -51,7 +54,8 @@ mixed-number fields p q i same = by (has_field fields i) refl
     own : (y d e : ℤ) → y *ℤ (d *ℤ e) ≡ y *ℤ d *ℤ e
     own y d e = sym (assoc y d e)
 
-    by : (b : Bool) → has_field fields i ≡ b → q.numerator i *ℤ (p.denominator *ℤ q.denominator) ≡ (if b then q.numerator i *ℤ p.denominator else p.numerator i *ℤ q.denominator) *ℤ q.denominator
+    by : (b : Bool) → has_field fields i ≡ b → q.numerator i *ℤ (p.denominator *ℤ q.denominator)
+        ≡ (if b then q.numerator i *ℤ p.denominator else p.numerator i *ℤ q.denominator) *ℤ q.denominator
     by true e = own (q.numerator i) p.denominator q.denominator
     by false e = own (q.numerator i) p.denominator q.denominator ∙ ap (λ (k : ℤ). k *ℤ q.denominator) (same e)
 
@@ -102,7 +106,8 @@ module _ (survey : SurveyParts) (edits : List LineParts) (row : List Value) (f :
         own : q.numerator f *ℤ (p.denominator *ℤ x.denominator) ≡ x.numerator *ℤ p.denominator *ℤ q.denominator
         own = moved (q.numerator f) x.numerator x.denominator p.denominator q.denominator is
 
-        by : (b : Bool) → b ≡ true → x.numerator *ℤ p.denominator *ℤ q.denominator ≡ (if b then x.numerator *ℤ p.denominator else p.numerator f *ℤ x.denominator) *ℤ q.denominator
+        by : (b : Bool) → b ≡ true → x.numerator *ℤ p.denominator *ℤ q.denominator
+            ≡ (if b then x.numerator *ℤ p.denominator else p.numerator f *ℤ x.denominator) *ℤ q.denominator
         by true e = refl
         by false e = absurd (cc)
 
@@ -124,7 +129,8 @@ module _ (survey : SurveyParts) (edits : List LineParts) (row : List Value) (f :
     pub allowed-holds : AllowsNumber survey row (f ∷ before) f x → AllHold (system edits before) at_x
     allowed-holds (q, completes_q, is) =
         system-holds shape edits before at_x (mixed before at_x q) over numbers (mixed-differs before at_x q)
-        (all-in (λ line. LineHolds line (mixed before at_x q)) edits (λ line there. moved line (in-all (λ l. l.shape ≡ shape) line edits (λ k d below. (over k d below).same) there)
+        (all-in (λ line. LineHolds line (mixed before at_x q)) edits
+        (λ line there. moved line (in-all (λ l. l.shape ≡ shape) line edits (λ k d below. (over k d below).same) there)
         (in-all (λ line. LineHolds line q) line edits (decide.complete q completes_q.correction completes_q.agrees) there)))
       where
         codes : codes_at shape q ≡ codes_at shape (mixed before at_x q)
@@ -136,7 +142,8 @@ module _ (survey : SurveyParts) (edits : List LineParts) (row : List Value) (f :
         moved : (line : LineParts) → line.shape ≡ shape → LineHolds line q → LineHolds line (mixed before at_x q)
         moved line same holds =
             LineHolds-same line (mixed before at_x q) q (subst (λ (s : List Domain). codes_at s q ≡ codes_at s (mixed before at_x q)) (sym same) codes)
-            (λ i some. mixed-number before at_x q i (λ outside. same-elsewhere q completes_q is i (subst (λ (s : List Domain). has_field (number_fields s) i ≡ true) same (factor-numerical line i some)) outside)) holds
+            (λ i some. mixed-number before at_x q i (λ outside. same-elsewhere q completes_q is i
+            (subst (λ (s : List Domain). has_field (number_fields s) i ≡ true) same (factor-numerical line i some)) outside)) holds
 
     -- ---- from the system to a completion
 
@@ -157,10 +164,12 @@ module _ (survey : SurveyParts) (edits : List LineParts) (row : List Value) (f :
           where
             by : (b : Bool) → (f == i) ≡ b → (b || has_field before i) ≡ false → SameNumber p q i
             by true e h = absurd (cc)
-            by false e h = SameNumber-trans p at_x q i (at_x-number i (λ same. absurd (cc (sym e ∙ (Decides-eqb f i).1 (sym same))))) (differs.numbers i (absent-apart i before h))
+            by false e h = SameNumber-trans p at_x q i (at_x-number i (λ same. absurd (cc (sym e ∙ (Decides-eqb f i).1 (sym same)))))
+                (differs.numbers i (absent-apart i before h))
 
         at_f : (q : Point) → DiffersOnlyIn before at_x q → q.numerator f *ℤ x.denominator ≡ x.numerator *ℤ q.denominator
-        at_f q differs = cancel (q.numerator f) x.numerator x.denominator p.denominator q.denominator p.positive (differs.numbers f (absent-apart f before other) ∙ by (f == f) ((Decides-eqb f f).1 refl))
+        at_f q differs = cancel (q.numerator f) x.numerator x.denominator p.denominator q.denominator p.positive
+            (differs.numbers f (absent-apart f before other) ∙ by (f == f) ((Decides-eqb f f).1 refl))
           where
             cancel : (y x_n x_d d e : ℤ) → pos 0 <ℤ d → y *ℤ (d *ℤ x_d) ≡ x_n *ℤ d *ℤ e → y *ℤ x_d ≡ x_n *ℤ e
             cancel y x_n x_d d e d_above h = same_cancel (y *ℤ x_d) (x_n *ℤ e) d d_above (turned y x_d d ∙ h ∙ swap_last x_n d e)
@@ -168,7 +177,8 @@ module _ (survey : SurveyParts) (edits : List LineParts) (row : List Value) (f :
                 turned : (y x_d d : ℤ) → y *ℤ x_d *ℤ d ≡ y *ℤ (d *ℤ x_d)
                 turned y x_d d = rw (parts y, parts x_d, parts d) (simp ring (same_dif _ _ _ _ (omega arith)))
 
-            by : (b : Bool) → b ≡ true → (if b then x.numerator *ℤ p.denominator else p.numerator f *ℤ x.denominator) *ℤ q.denominator ≡ x.numerator *ℤ p.denominator *ℤ q.denominator
+            by : (b : Bool) → b ≡ true → (if b then x.numerator *ℤ p.denominator else p.numerator f *ℤ x.denominator) *ℤ q.denominator
+                ≡ x.numerator *ℤ p.denominator *ℤ q.denominator
             by true e = refl
             by false e = absurd (cc)
 
@@ -180,10 +190,13 @@ module _ (survey : SurveyParts) (edits : List LineParts) (row : List Value) (f :
 
     pub holds-bounded : AllHold (system edits before) at_x → AreBounded
     holds-bounded holds line there inside some =
-        let same : line.shape ≡ shape = in-all (λ l. l.shape ≡ shape) line (system edits before) (λ k d below. (HaveShape-system shape edits before over k d below).same) there in
+        let same : line.shape ≡ shape = in-all (λ l. l.shape ≡ shape) line (system edits before)
+        (λ k d below. (HaveShape-system shape edits before over k d below).same) there in
         let here : LineHolds line at_x = in-all (λ l. LineHolds l at_x) line (system edits before) holds there in
-        let codes : codes_at line.shape at_x ≡ codes_at shape p = ap (λ s. codes_at s at_x) same ∙ map-agree at_x.code p.code (code_fields shape) (λ i _. put-code p f (x.numerator *ℤ p.denominator) x.denominator above i) in
-        subst (λ (z : ℤ). IsEnough line.relation z) (amount-put p f (p.code f) (x.numerator *ℤ p.denominator) x.denominator above line) (here.enough (subst (λ (cs : List ℕ). AreCodesIn line.sets cs) (sym codes) inside))
+        let codes : codes_at line.shape at_x ≡ codes_at shape p = ap (λ s. codes_at s at_x) same
+        ∙ map-agree at_x.code p.code (code_fields shape) (λ i _. put-code p f (x.numerator *ℤ p.denominator) x.denominator above i) in
+        subst (λ (z : ℤ). IsEnough line.relation z) (amount-put p f (p.code f) (x.numerator *ℤ p.denominator) x.denominator above line)
+        (here.enough (subst (λ (cs : List ℕ). AreCodesIn line.sets cs) (sym codes) inside))
 
     pub bounded-holds : AreBounded → AllHold (system edits before) at_x
     bounded-holds bounded = all-in (λ line. LineHolds line at_x) (system edits before) each
@@ -200,11 +213,13 @@ module _ (survey : SurveyParts) (edits : List LineParts) (row : List Value) (f :
             by_factor : (b : Bool) → int_eq (factor line f) (pos 0) ≡ b → LineHolds line at_x
             by_factor true e =
                 let differs = put-differs p f (p.code f) (x.numerator *ℤ p.denominator) x.denominator above in
-                LineHolds-others line at_x p f (subst (λ (s : List Domain). IsNumerical s f) (sym same) number) (record { codes = λ i apart. sym (differs.codes i apart); numbers = λ i apart. sym (differs.numbers i apart) })
+                LineHolds-others line at_x p f (subst (λ (s : List Domain). IsNumerical s f) (sym same) number)
+                (record { codes = λ i apart. sym (differs.codes i apart); numbers = λ i apart. sym (differs.numbers i apart) })
                 ((Decides-int_eq (factor line f) (pos 0)).0 e) (in-all (λ l. LineHolds l p) line (system edits before) at_p there)
             by_factor false e =
                 holds-put line p f (x.numerator *ℤ p.denominator) x.denominator above
-                (λ inside. bounded line there (subst (λ (s : List Domain). AreCodesIn line.sets (codes_at s p)) same inside) (λ none. absurd (cc (sym e ∙ (Decides-int_eq (factor line f) (pos 0)).1 none))))
+                (λ inside. bounded line there (subst (λ (s : List Domain). AreCodesIn line.sets (codes_at s p)) same inside)
+                (λ none. absurd (cc (sym e ∙ (Decides-int_eq (factor line f) (pos 0)).1 none))))
 
     -- where some correction completes the record, the numbers allowed at f are those within the bounds
     pub allowed-bounded : AllowsNumber survey row (f ∷ before) f x ↔ AreBounded

@@ -11,22 +11,28 @@ use Rattle.back_subst.proofs.StartLaws.{past-end}
 
 -- The changed fields of a record are made Bad, one after the other.
 
-module _ (fields : List Field) (changed i : ℕ) (row new : List Value) (is_row : IsRow fields new) (below : i < length fields) (blank : (f : ℕ) → f < i → has_number changed f ≡ true → value_of new f ≡ Bad) where
+module _ (fields : List Field) (changed i : ℕ) (row new : List Value) (is_row : IsRow fields new) (below : i < length fields)
+    (blank : (f : ℕ) → f < i → has_number changed f ≡ true → value_of new f ≡ Bad) where
   pub blank-more : (f : ℕ) → f < i + 1 → has_number changed f ≡ true → value_of (slice_set new i Bad) f ≡ Bad
   blank-more f f_below there = by (i == f) refl
     where
       by : (b : Bool) → (i == f) ≡ b → value_of (slice_set new i Bad) f ≡ Bad
-      by true e = ap (λ n. value_of (slice_set new i Bad) n) (sym ((Decides-eqb i f).0 e)) ∙ value-set new i Bad (omega (arith, below, row-length fields new is_row))
-      by false e = let apart : i ≢ f = λ same. absurd (cc (sym e ∙ (Decides-eqb i f).1 same)) in value-other new i f Bad apart ∙ blank f (omega (arith, apart, f_below)) there
+      by true e =
+          ap (λ n. value_of (slice_set new i Bad) n) (sym ((Decides-eqb i f).0 e)) ∙ value-set new i Bad (omega (arith, below, row-length fields new is_row))
+      by false e = let apart : i ≢ f = λ same. absurd (cc (sym e ∙ (Decides-eqb i f).1 same)) in value-other new i f Bad apart
+          ∙ blank f (omega (arith, apart, f_below)) there
 
   pub blank-same : has_number changed i ≡ false → (f : ℕ) → f < i + 1 → has_number changed f ≡ true → value_of new f ≡ Bad
-  blank-same none f f_below there = let apart : i ≢ f = λ same. absurd (cc (sym none ∙ ap (λ n. has_number changed n) same ∙ there)) in blank f (omega (arith, apart, f_below)) there
+  blank-same none f f_below there = let apart : i ≢ f = λ same. absurd (cc (sym none ∙ ap (λ n. has_number changed n) same ∙ there)) in blank f
+      (omega (arith, apart, f_below)) there
 
-  pub kept-more : has_number changed i ≡ true → ((f : ℕ) → has_number changed f ≡ false → value_of new f ≡ value_of row f) → (f : ℕ) → has_number changed f ≡ false → value_of (slice_set new i Bad) f ≡ value_of row f
+  pub kept-more : has_number changed i ≡ true → ((f : ℕ) → has_number changed f ≡ false → value_of new f ≡ value_of row f) → (f : ℕ)
+      → has_number changed f ≡ false → value_of (slice_set new i Bad) f ≡ value_of row f
   kept-more there kept f none = value-other new i f Bad (λ same. absurd (cc (sym none ∙ ap (λ n. has_number changed n) (sym same) ∙ there))) ∙ kept f none
 
 -- at last all of them are
-pub blank-all : (fields : List Field) (changed i : ℕ) (new : List Value) → IsRow fields new → length fields ≤ i → ((f : ℕ) → f < i → has_number changed f ≡ true → value_of new f ≡ Bad) → (f : ℕ) → has_number changed f ≡ true → value_of new f ≡ Bad
+pub blank-all : (fields : List Field) (changed i : ℕ) (new : List Value) → IsRow fields new → length fields ≤ i
+    → ((f : ℕ) → f < i → has_number changed f ≡ true → value_of new f ≡ Bad) → (f : ℕ) → has_number changed f ≡ true → value_of new f ≡ Bad
 blank-all fields changed i new is_row past blank f there = by (nat_lt f i) refl
   where
     by : (b : Bool) → nat_lt f i ≡ b → value_of new f ≡ Bad

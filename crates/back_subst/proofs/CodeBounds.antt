@@ -48,17 +48,24 @@ no_neg z h = rw h refl
 
 -- ---- a number on either side of a bound
 
-pub admits-less : (lower : Bool) (b : Bound) (x : Fraction) → IsBelow x b.at → not lower ≡ is_enough (bound_relation b.strict) (inside_by (side_of lower) (found_of b) (ratio_of x))
+pub admits-less : (lower : Bool) (b : Bound) (x : Fraction) → IsBelow x b.at
+    → not lower ≡ is_enough (bound_relation b.strict) (inside_by (side_of lower) (found_of b) (ratio_of x))
 admits-less true b x h = sym (short b.strict _ (subst (λ (z : ℤ). z <ℤ pos 0) (sym (once _)) (less_gap _ _ h)))
 admits-less false b x h = sym (plenty b.strict _ (subst (λ (z : ℤ). pos 0 <ℤ z) (sym (minus _)) (more_gap _ _ h)))
 
-pub admits-greater : (lower : Bool) (b : Bound) (x : Fraction) → IsBelow b.at x → lower ≡ is_enough (bound_relation b.strict) (inside_by (side_of lower) (found_of b) (ratio_of x))
+pub admits-greater : (lower : Bool) (b : Bound) (x : Fraction) → IsBelow b.at x
+    → lower ≡ is_enough (bound_relation b.strict) (inside_by (side_of lower) (found_of b) (ratio_of x))
 admits-greater true b x h = sym (plenty b.strict _ (subst (λ (z : ℤ). pos 0 <ℤ z) (sym (once _)) (above_gap _ _ h)))
 admits-greater false b x h = sym (short b.strict _ (subst (λ (z : ℤ). z <ℤ pos 0) (sym (minus _)) (under_gap _ _ h)))
 
-pub admits-equal : (lower : Bool) (b : Bound) (x : Fraction) → x ≡ b.at → not b.strict ≡ is_enough (bound_relation b.strict) (inside_by (side_of lower) (found_of b) (ratio_of x))
-admits-equal true b x same = sym (at_end b.strict _ (once _ ∙ no_gap _ _ (ap (λ (y : Fraction). y.numerator *ℤ b.at.denominator) same ∙ ap (λ (y : Fraction). b.at.numerator *ℤ y.denominator) (sym same))))
-admits-equal false b x same = sym (at_end b.strict _ (minus _ ∙ no_neg _ (no_gap _ _ (ap (λ (y : Fraction). y.numerator *ℤ b.at.denominator) same ∙ ap (λ (y : Fraction). b.at.numerator *ℤ y.denominator) (sym same)))))
+pub admits-equal : (lower : Bool) (b : Bound) (x : Fraction) → x ≡ b.at
+    → not b.strict ≡ is_enough (bound_relation b.strict) (inside_by (side_of lower) (found_of b) (ratio_of x))
+admits-equal true b x same =
+    sym (at_end b.strict _ (once _ ∙ no_gap _ _ (ap (λ (y : Fraction). y.numerator *ℤ b.at.denominator) same
+    ∙ ap (λ (y : Fraction). b.at.numerator *ℤ y.denominator) (sym same))))
+admits-equal false b x same =
+    sym (at_end b.strict _ (minus _ ∙ no_neg _ (no_gap _ _
+    (ap (λ (y : Fraction). y.numerator *ℤ b.at.denominator) same ∙ ap (λ (y : Fraction). b.at.numerator *ℤ y.denominator) (sym same)))))
 
 -- ---- the tighter of two bounds
 

@@ -1,4 +1,5 @@
-use Rattle.std.proofs.Common.{◌≡◌, ◌≢◌, ◌↔◌, inl, inr, ℕ, suc, ◌<◌, ◌==◌, ◌||◌, ◌&&◌, not, Bool, true, false, if◌then◌else◌, List, [], ◌∷◌, ◌++◌, All, Result, Ok, Err, length, ℤ, pos, ◌*ℤ◌, refl, sym, ap, ◌∙◌, subst, arith}
+use Rattle.std.proofs.Common.{◌≡◌, ◌≢◌, ◌↔◌, inl, inr, ℕ, suc, ◌<◌, ◌==◌, ◌||◌, ◌&&◌, not, Bool, true, false, if◌then◌else◌, List, [], ◌∷◌, ◌++◌, All}
+use Rattle.std.proofs.Common.{Result, Ok, Err, length, ℤ, pos, ◌*ℤ◌, refl, sym, ap, ◌∙◌, subst, arith}
 use Rattle.std.specs.List.{list_any}
 use Rattle.std.proofs.lemmas.Bool.Decides.{Decides-eqb}
 use Rattle.edit_line.specs.inner.LineFields.{HasNumbers, IsCategorical}
@@ -15,7 +16,8 @@ use Rattle.edit_model.specs.declared.value.Value.{Value}
 use Rattle.edit_line.specs.CodeFields.{size_of, with_code_at}
 use Rattle.edit_line.specs.Lines.{AllHold, HaveShape, LineParts, factor}
 use Rattle.edit_line.specs.Reductions.{IsIn, lines_of}
-use Rattle.edit_line.specs.Shapes.{Categorical, Domain, HasCodes, IsNumerical, Numerical, code_fields, codes_from, domain_of, has_field, number_fields, shape_of}
+use Rattle.edit_line.specs.Shapes.{Categorical, Domain, HasCodes, IsNumerical, Numerical, code_fields, codes_from, domain_of, has_field}
+use Rattle.edit_line.specs.Shapes.{number_fields, shape_of}
 use Rattle.edit_line.specs.Sums.{AgreesOnLine, fails_at}
 use Rattle.edit_line.specs.declared.derived.Derived.{Derived}
 use Rattle.edit_line.proofs.Members.{all-in, in-all, in-taken}
@@ -49,7 +51,8 @@ pub absent-left : (f : ℕ) (xs ys : List ℕ) → has_field (xs ++ ys) f ≡ fa
 absent-left f [] ys h = (refl, h)
 absent-left f (x ∷ xs) ys h = by (x == f) h (absent-left f xs ys)
   where
-    by : (b : Bool) → (b || has_field (xs ++ ys) f) ≡ false → (has_field (xs ++ ys) f ≡ false → (has_field xs f ≡ false) × (has_field ys f ≡ false)) → ((b || has_field xs f) ≡ false) × (has_field ys f ≡ false)
+    by : (b : Bool) → (b || has_field (xs ++ ys) f) ≡ false → (has_field (xs ++ ys) f ≡ false → (has_field xs f ≡ false) × (has_field ys f ≡ false))
+        → ((b || has_field xs f) ≡ false) × (has_field ys f ≡ false)
     by true h rest = absurd (cc)
     by false h rest = rest h
 
@@ -67,7 +70,8 @@ distinct-from i (Numerical ∷ shape) = distinct-from (suc i) shape
 distinct-from i (Categorical k ∷ shape) = (no_code-before i (suc i) shape (omega arith), distinct-from (suc i) shape)
 
 -- ---- each box of a record is the sets of a line
-boxes-each : (P : List ℕ → Type 0) (i : ℕ) (lines : List LineParts) (row : List Value) (kept boxes : List (List ℕ)) → ((l : LineParts) → IsIn l lines → P l.sets) → ((b : List ℕ) → IsIn b kept → P b)
+boxes-each : (P : List ℕ → Type 0) (i : ℕ) (lines : List LineParts) (row : List Value) (kept boxes : List (List ℕ))
+    → ((l : LineParts) → IsIn l lines → P l.sets) → ((b : List ℕ) → IsIn b kept → P b)
     → boxes_from i lines row kept ≡ Ok boxes → (b : List ℕ) → IsIn b boxes → P b
 boxes-each P i [] row kept boxes each all e = λ b there. let same : kept ≡ boxes = cc in all b (subst (λ bs. IsIn b bs) (sym same) there)
 boxes-each P i (line ∷ lines) row kept boxes each all e =
@@ -79,8 +83,10 @@ boxes-each P i (line ∷ lines) row kept boxes each all e =
       | inr same ↦ subst P (sym same) (each line (inl refl))
     ]
 
-    by : (t : Result Bool ℕ) → (fault_as (line_fault i) t >>= (λ fails. boxes_from (suc i) lines row (if fails then with_box kept line.sets else kept))) ≡ Ok boxes
-        → ((kept' : List (List ℕ)) → ((b : List ℕ) → IsIn b kept' → P b) → boxes_from (suc i) lines row kept' ≡ Ok boxes → (b : List ℕ) → IsIn b boxes → P b) → (b : List ℕ) → IsIn b boxes → P b
+    by : (t : Result Bool ℕ) → (fault_as (line_fault i) t >>= (λ fails. boxes_from (suc i) lines row (if fails then with_box kept line.sets else kept)))
+        ≡ Ok boxes
+        → ((kept' : List (List ℕ)) → ((b : List ℕ) → IsIn b kept' → P b) → boxes_from (suc i) lines row kept' ≡ Ok boxes → (b : List ℕ) → IsIn b boxes
+        → P b) → (b : List ℕ) → IsIn b boxes → P b
     by (Err f) made rest = absurd (cc)
     by (Ok true) made rest = rest (with_box kept line.sets) taken made
     by (Ok false) made rest = rest kept all made
@@ -90,14 +96,17 @@ HasCodes-fields : (i : ℕ) (fields : List Field) (p : Point) → HasCodes i (sh
 HasCodes-fields i [] p held = tt
 HasCodes-fields i (field ∷ fields) p held = by field.kind (HasCodes-fields (suc i) fields p) held
   where
-    by : (k : Kind) → (HasCodes (suc i) (shape_of fields) p → HasCodesFrom (suc i) fields p) → HasCodes i (domain_of k ∷ shape_of fields) p → IsInDomain k (p.code i) × HasCodesFrom (suc i) fields p
+    by : (k : Kind) → (HasCodes (suc i) (shape_of fields) p → HasCodesFrom (suc i) fields p) → HasCodes i (domain_of k ∷ shape_of fields) p
+        → IsInDomain k (p.code i) × HasCodesFrom (suc i) fields p
     by (kind.Number scale) rest h = (tt, rest h)
     by (kind.Code codes) rest h = (h.0, rest h.1)
 
 module _ (survey : SurveyParts) (edits : List LineParts) (row : List Value) (g : ℕ) (before numbers : List ℕ)
     (is_row : IsRow survey.fields row) (over : HaveShape (shape_of survey.fields) edits) (decide : DecideFor survey edits row (g ∷ (before ++ numbers)))
-    (categorical : IsCategorical (shape_of survey.fields) g) (all_numbers : All (IsNumerical (shape_of survey.fields)) numbers) (all_codes : (i : ℕ) → has_field before i ≡ true → IsCategorical (shape_of survey.fields) i)
-    (derived : List Derived) (derived_are : lines_of derived ≡ system edits numbers) (boxes : List (List ℕ)) (made : failing_boxes (lines_of derived) row ≡ Ok boxes)
+    (categorical : IsCategorical (shape_of survey.fields) g) (all_numbers : All (IsNumerical (shape_of survey.fields)) numbers)
+    (all_codes : (i : ℕ) → has_field before i ≡ true → IsCategorical (shape_of survey.fields) i)
+    (derived : List Derived) (derived_are : lines_of derived ≡ system edits numbers) (boxes : List (List ℕ))
+    (made : failing_boxes (lines_of derived) row ≡ Ok boxes)
     (p : Point) (completes : Completes survey row (g ∷ (before ++ numbers)) p) where
   abbrev shape : List Domain
   shape = shape_of survey.fields
@@ -111,7 +120,8 @@ module _ (survey : SurveyParts) (edits : List LineParts) (row : List Value) (g :
   pub have_sets : HaveSets shape boxes
   have_sets =
       boxes-each (λ b. length b ≡ length (code_fields shape)) 0 (lines_of derived) row [] boxes
-      (λ l there. in-all (λ k. length k.sets ≡ length (code_fields shape)) l (system edits numbers) (λ k d below. (HaveShape-system shape edits numbers over k d below).sets) (subst (λ ls. IsIn l ls) derived_are there)) (λ b none. absurd none) made
+      (λ l there. in-all (λ k. length k.sets ≡ length (code_fields shape)) l (system edits numbers)
+      (λ k d below. (HaveShape-system shape edits numbers over k d below).sets) (subst (λ ls. IsIn l ls) derived_are there)) (λ b none. absurd none) made
 
   apart-code : (i : ℕ) → has_field (code_fields shape) i ≡ true → has_field numbers i ≡ false
   apart-code i there = by (has_field numbers i) refl
@@ -124,13 +134,16 @@ module _ (survey : SurveyParts) (edits : List LineParts) (row : List Value) (g :
   apart-number i there outside = by (g == i) refl (has_field before i) refl
     where
       by : (a : Bool) → (g == i) ≡ a → (b : Bool) → has_field before i ≡ b → (a || has_field (before ++ numbers) i) ≡ false
-      by true e b h = absurd (cc (sym (subst (λ j. has_field (code_fields shape) j ≡ true) ((Decides-eqb g i).0 e) categorical) ∙ number-no_code i 0 shape there))
+      by true e b h =
+          absurd (cc (sym (subst (λ j. has_field (code_fields shape) j ≡ true) ((Decides-eqb g i).0 e) categorical) ∙ number-no_code i 0 shape there))
       by false e true h = absurd (cc (sym (all_codes i h) ∙ number-no_code i 0 shape there))
       by false e false h = absent-joined i before numbers h outside
 
   -- ---- the numbers that stand in a line of the system
-  stands : (line : LineParts) → IsIn line (system edits numbers) → (i : ℕ) → factor line i ≢ pos 0 → (has_field (number_fields shape) i ≡ true) × (has_field numbers i ≡ false)
-  stands line there i some = (subst (λ (s : List Domain). has_field (number_fields s) i ≡ true) (shapes line there) (factor-numerical line i some), by (has_field numbers i) refl)
+  stands : (line : LineParts) → IsIn line (system edits numbers) → (i : ℕ) → factor line i ≢ pos 0
+      → (has_field (number_fields shape) i ≡ true) × (has_field numbers i ≡ false)
+  stands line there i some =
+      (subst (λ (s : List Domain). has_field (number_fields s) i ≡ true) (shapes line there) (factor-numerical line i some), by (has_field numbers i) refl)
     where
       by : (b : Bool) → has_field numbers i ≡ b → b ≡ false
       by false e = refl
@@ -151,15 +164,18 @@ module _ (survey : SurveyParts) (edits : List LineParts) (row : List Value) (g :
       of_number (agrees-held row p i (completes.agrees i within (apart-number i number outside)))))
 
   -- a point that agrees with the record at the numerical fields that are kept
-  avoids-holds : (q : Point) → ((i : ℕ) → has_field (number_fields shape) i ≡ true → has_field numbers i ≡ false → Agrees row q i) → AllHold (system edits numbers) q ↔ Avoids shape boxes q
+  avoids-holds : (q : Point) → ((i : ℕ) → has_field (number_fields shape) i ≡ true → has_field numbers i ≡ false → Agrees row q i)
+      → AllHold (system edits numbers) q ↔ Avoids shape boxes q
   avoids-holds q agrees =
       let law = failing-avoids shape row q derived boxes (at_lines (λ l. l.shape ≡ shape) shapes) have_numbers
-      (at_lines (λ l. AgreesOnLine row q l) (λ l there. at-factors (λ f. Agrees row q f) l (λ i some. let (number, outside) = stands l there i some in agrees i number outside))) made in
+      (at_lines (λ l. AgreesOnLine row q l) (λ l there. at-factors (λ f. Agrees row q f) l
+      (λ i some. let (number, outside) = stands l there i some in agrees i number outside))) made in
       (λ hold. law.0 (subst (λ ls. AllHold ls q) (sym derived_are) hold), λ avoids. subst (λ ls. AllHold ls q) derived_are (law.1 avoids))
 
   -- ---- the record's codes at the fields that are kept
   kept-absent : (i : ℕ) → has_field (code_fields shape) i ≡ true → (i == g) ≡ false → has_field before i ≡ false → has_field (g ∷ (before ++ numbers)) i ≡ false
-  kept-absent i there apart outside = ap (λ b. b || has_field (before ++ numbers) i) (turned apart) ∙ absent-joined i before numbers outside (apart-code i there)
+  kept-absent i there apart outside =
+      ap (λ b. b || has_field (before ++ numbers) i) (turned apart) ∙ absent-joined i before numbers outside (apart-code i there)
     where
       turned : (i == g) ≡ false → (g == i) ≡ false
       turned e = by (g == i) refl
@@ -178,7 +194,8 @@ module _ (survey : SurveyParts) (edits : List LineParts) (row : List Value) (g :
   abbrev with_it : ℕ → Point
   with_it code = with_code_at p g code
 
-  pub allowed-avoids : (code : ℕ) → AllowsCode survey row (g ∷ (before ++ numbers)) g code → (code < size_of shape g) × Avoids shape (boxes_for shape row before g boxes) (with_it code)
+  pub allowed-avoids : (code : ℕ) → AllowsCode survey row (g ∷ (before ++ numbers)) g code
+      → (code < size_of shape g) × Avoids shape (boxes_for shape row before g boxes) (with_it code)
   allowed-avoids code (q, completes_q, is) =
       let q_held : HasCodes 0 shape q = HasCodes-shape 0 survey.fields q completes_q.correction.codes in
       let fits : code < size_of shape g = subst (λ c. c < size_of shape g) is (code-below shape q g categorical q_held) in
@@ -186,26 +203,33 @@ module _ (survey : SurveyParts) (edits : List LineParts) (row : List Value) (g :
       (avoids-holds q (λ i number outside. completes_q.agrees i (number-at survey.fields row i is_row number).1 (apart-number i number outside))).0
       (system-follows shape edits numbers q over (decide.complete q completes_q.correction completes_q.agrees)) in (
         fits,
-        settled-holds shape row before g (code_fields shape) boxes q (with_it code) have_sets (λ i there. there) (distinct-from 0 shape) q_held (HasCodes-with shape p g code fits held) (kept-code q completes_q.agrees)
+        settled-holds shape row before g (code_fields shape) boxes q (with_it code) have_sets (λ i there. there) (distinct-from 0 shape) q_held
+            (HasCodes-with shape p g code fits held) (kept-code q completes_q.agrees)
             (λ j there settled. at j there (j == g) refl settled) free,
       )
     where
-      at : (j : ℕ) → has_field (code_fields shape) j ≡ true → (b : Bool) → (j == g) ≡ b → (has_field (code_fields shape) j && not b) ≡ false → (if b then code else p.code j) ≡ q.code j
+      at : (j : ℕ) → has_field (code_fields shape) j ≡ true → (b : Bool) → (j == g) ≡ b → (has_field (code_fields shape) j && not b) ≡ false
+          → (if b then code else p.code j) ≡ q.code j
       at j there true e settled = sym is ∙ ap (λ k. q.code k) (sym ((Decides-eqb j g).0 e))
       at j there false e settled = absurd (cc (sym settled ∙ ap (λ b. b && true) there))
 
-  pub avoids-allowed : (code : ℕ) → code < size_of shape g → Avoids shape (boxes_for shape row before g boxes) (with_it code) → AllowsCode survey row (g ∷ (before ++ numbers)) g code
+  pub avoids-allowed : (code : ℕ) → code < size_of shape g → Avoids shape (boxes_for shape row before g boxes) (with_it code)
+      → AllowsCode survey row (g ∷ (before ++ numbers)) g code
   avoids-allowed code fits avoids =
-      let (q, is) = settled-lifts shape row before g (code_fields shape) boxes (with_it code) have_sets (λ i there. there) (distinct-from 0 shape) (HasCodes-with shape p g code fits held)
-      (λ i there apart outside. subst (λ c. c < size_of shape i) (kept-code p completes.agrees i there apart outside) (code-below shape p i there held)) avoids in
+      let (q, is) = settled-lifts shape row before g (code_fields shape) boxes (with_it code) have_sets (λ i there. there) (distinct-from 0 shape)
+      (HasCodes-with shape p g code fits held)
+      (λ i there apart outside. subst (λ c. c < size_of shape i) (kept-code p completes.agrees i there apart outside) (code-below shape p i there held))
+      avoids in
       let hold : AllHold (system edits numbers) q = (avoids-holds q (λ i number outside.
-      Agrees-carried row p q i (number_code q is i number) (same_number q is i) (completes.agrees i (number-at survey.fields row i is_row number).1 (apart-number i number outside)))).1 is.avoids in
+      Agrees-carried row p q i (number_code q is i number) (same_number q is i)
+      (completes.agrees i (number-at survey.fields row i is_row number).1 (apart-number i number outside)))).1 is.avoids in
       let (r, differs, same_codes, at_r) = system-lifts shape edits numbers q over hold in (
         r,
         record {
           correction = decide.sound r (HasCodes-fields 0 survey.fields r (HasCodes-same shape q r (λ j there. same_codes j) is.held)) at_r;
           agrees = λ i within absent. Agrees-carried row p r i (same_codes i ∙ code_of q is i absent)
-              (SameNumber-trans p q r i (same_number q is i) (differs.numbers i (absent-apart i numbers (absent-left i before numbers (tail i absent)).1))) (completes.agrees i within absent);
+              (SameNumber-trans p q r i (same_number q is i) (differs.numbers i (absent-apart i numbers (absent-left i before numbers (tail i absent)).1)))
+              (completes.agrees i within absent);
         },
         same_codes g ∙ is.others g (own (has_field (code_fields shape) g)) ∙ code-own p g code,
       )
@@ -256,6 +280,8 @@ module _ (survey : SurveyParts) (edits : List LineParts) (row : List Value) (g :
           at false e = refl
           at true e = absurd (cc (sym (number-no_code i 0 shape number) ∙ ap (λ j. has_field (code_fields shape) j) ((Decides-eqb i g).0 e) ∙ categorical))
 
-  -- where some correction completes the record, a code of the field is allowed exactly where the record's codes with it avoid the boxes after the other fields are settled
-  pub allowed-code : (code : ℕ) → AllowsCode survey row (g ∷ (before ++ numbers)) g code ↔ ((code < size_of shape g) × Avoids shape (boxes_for shape row before g boxes) (with_it code))
+  -- where some correction completes the record, a code of the field is allowed exactly where the record's codes with it avoid the
+  -- boxes after the other fields are settled
+  pub allowed-code : (code : ℕ) → AllowsCode survey row (g ∷ (before ++ numbers)) g code ↔
+      ((code < size_of shape g) × Avoids shape (boxes_for shape row before g boxes) (with_it code))
   allowed-code code = (allowed-avoids code, λ h. avoids-allowed code h.0 h.1)

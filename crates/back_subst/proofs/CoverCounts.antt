@@ -1,4 +1,5 @@
-use Rattle.std.proofs.Common.{◌≡◌, ◌<◌, ◌≤◌, ◌+◌, ◌-◌, ◌^◌, ◌++◌, ◌||◌, not, ℕ, suc, inl, Bool, true, false, if◌then◌else◌, List, [], ◌∷◌, Ok, append_assoc, get_or, length, length-append, take, refl, sym, ap, ◌∙◌, subst, arith}
+use Rattle.std.proofs.Common.{◌≡◌, ◌<◌, ◌≤◌, ◌+◌, ◌-◌, ◌^◌, ◌++◌, ◌||◌, not, ℕ, suc, inl, Bool, true, false, if◌then◌else◌, List, [], ◌∷◌, Ok}
+use Rattle.std.proofs.Common.{append_assoc, get_or, length, length-append, take, refl, sym, ap, ◌∙◌, subst, arith}
 use Rattle.std.specs.List.{filter, fold}
 use Rattle.std.proofs.Math.Seq.{get_or-append_right, get_or-append_seam, take-suc}
 use Rattle.std.proofs.lemmas.List.{get_or-take, get_or_past, length-take-le}
@@ -56,7 +57,8 @@ module _ (c : SearchCase) (path : List Bool) (whole : length path ≡ field_coun
 
     order-at : get_or (path_order c.survey.fields) (number_count c + length done) 0 ≡ f
     order-at =
-        ap (λ (fs : List ℕ). get_or fs k 0) (order-shape c.survey.fields) ∙ get_or-append_right (number_fields shape) codes k 0 (omega arith) ∙ ap (λ n. get_or codes n 0) back
+        ap (λ (fs : List ℕ). get_or fs k 0) (order-shape c.survey.fields) ∙ get_or-append_right (number_fields shape) codes k 0 (omega arith)
+        ∙ ap (λ n. get_or codes n 0) back
         ∙ ap (λ (fs : List ℕ). get_or fs (length done) 0) are ∙ get_or-append_seam done f fields 0
       where
         back : number_count c + length done - length (number_fields (shape_of c.survey.fields)) ≡ length done
@@ -80,28 +82,35 @@ module _ (c : SearchCase) (path : List Bool) (whole : length path ≡ field_coun
     letter-is : get_or path (number_count c + length done) false ≡ changes c.survey.fields path f
     letter-is = ap (λ n. get_or path n false) (sym place-at)
 
-    longer-is : take (suc (number_count c + length done)) path ≡ take (number_count c + length done) path ++ get_or path (number_count c + length done) false ∷ []
+    longer-is : take (suc (number_count c + length done)) path
+        ≡ take (number_count c + length done) path ++ get_or path (number_count c + length done) false ∷ []
     longer-is = take-suc path k false (omega (arith, below, whole))
 
     next-is : get_or (path_order c.survey.fields) (length (take (number_count c + length done) path)) 0 ≡ f
     next-is = ap (λ n. get_or (path_order c.survey.fields) n 0) short-is ∙ order-at
 
     sets-next : sets_of (boxes_along c (take (suc (number_count c + length done)) path))
-        ≡ (if changes c.survey.fields path f then covered (shape_of c.survey.fields) (sets_of (boxes_along c (take (number_count c + length done) path))) f else fixed (shape_of c.survey.fields) (sets_of (boxes_along c (take (number_count c + length done) path))) f (code_in (value_of c.row f)))
+        ≡ (if changes c.survey.fields path f then covered (shape_of c.survey.fields) (sets_of (boxes_along c (take (number_count c + length done) path)))
+        f else fixed (shape_of c.survey.fields) (sets_of (boxes_along c (take (number_count c + length done) path))) f (code_in (value_of c.row f)))
     sets-next =
         ap (λ (p : List Bool). sets_of (boxes_along c p)) longer-is ∙ ap (λ (bs : List BoxFrom). sets_of bs) (child-boxes c (take k path) letter short enough)
         ∙ sets-along c (take k path ++ letter ∷ []) (boxes_along c (take k path)) (get_or (path_order c.survey.fields) (length (take k path)) 0 ∷ [])
         ∙ ap (λ n. sets_after c (take k path ++ letter ∷ []) (sets k) n) next-is
-        ∙ ap (λ b. if b then covered shape (sets k) f else fixed shape (sets k) f (code_in (value_of c.row f))) (changes-next c (take k path) letter short f (place-at ∙ sym short-is) ∙ letter-is)
+        ∙ ap (λ b. if b then covered shape (sets k) f else fixed shape (sets k) f (code_in (value_of c.row f)))
+        (changes-next c (take k path) letter short f (place-at ∙ sym short-is) ∙ letter-is)
 
     -- where the path changes the field, its elimination looks at fewer pairs than the path's work
-    count-next : IsCheap c path → changes c.survey.fields path f ≡ true → cover_count (shape_of c.survey.fields) (sets_of (boxes_along c (take (number_count c + length done) path))) f < 2 ^ 64
+    count-next : IsCheap c path → changes c.survey.fields path f ≡ true
+        → cover_count (shape_of c.survey.fields) (sets_of (boxes_along c (take (number_count c + length done) path))) f < 2 ^ 64
     count-next cheap changed = let small = cheap (suc k) (omega (arith, below, whole)) in omega (arith, small, work)
       where
         no_number : has_field (number_fields (shape_of c.survey.fields)) f ≡ false
-        no_number = false_unless (has_field (number_fields shape) f) (λ e. absurd (cc (sym (number-no_code f 0 shape e) ∙ ap (λ (fs : List ℕ). has_field fs f) are ∙ has-right f done (f ∷ fields) (there-has f (f ∷ fields) (inl refl)))))
+        no_number = false_unless (has_field (number_fields shape) f)
+            (λ e. absurd (cc (sym (number-no_code f 0 shape e) ∙ ap (λ (fs : List ℕ). has_field fs f) are
+            ∙ has-right f done (f ∷ fields) (there-has f (f ∷ fields) (inl refl)))))
 
-        work : work_of c (take (suc (number_count c + length done)) path) ≡ 1 + cover_count (shape_of c.survey.fields) (sets_of (boxes_along c (take (number_count c + length done) path))) f
+        work : work_of c (take (suc (number_count c + length done)) path)
+            ≡ 1 + cover_count (shape_of c.survey.fields) (sets_of (boxes_along c (take (number_count c + length done) path))) f
         work =
             ap (λ (p : List Bool). work_of c p) longer-is ∙ child-work c (take k path) letter short
             ∙ ap (λ b. if b then 1 + pairs_next c (take k path) (get_or (path_order c.survey.fields) (length (take k path)) 0) else 1) (letter-is ∙ changed)
@@ -110,16 +119,22 @@ module _ (c : SearchCase) (path : List Bool) (whole : length path ≡ field_coun
 
   -- ---- all of them
 
-  module _ (left : List ℕ) (left_is : (f : ℕ) → has_field (code_fields (shape_of c.survey.fields)) f ≡ true → has_field left f ≡ changes c.survey.fields path f) where
-    there-in : (done : List ℕ) (f : ℕ) (fields : List ℕ) → code_fields (shape_of c.survey.fields) ≡ done ++ f ∷ fields → has_field (code_fields (shape_of c.survey.fields)) f ≡ true
+  module _ (left : List ℕ) (left_is : (f : ℕ) → has_field (code_fields (shape_of c.survey.fields)) f ≡ true
+      → has_field left f ≡ changes c.survey.fields path f) where
+    there-in : (done : List ℕ) (f : ℕ) (fields : List ℕ) → code_fields (shape_of c.survey.fields) ≡ done ++ f ∷ fields
+        → has_field (code_fields (shape_of c.survey.fields)) f ≡ true
     there-in done f fields are = ap (λ (fs : List ℕ). has_field fs f) are ∙ has-right f done (f ∷ fields) (there-has f (f ∷ fields) (inl refl))
 
     along : (done first rest : List ℕ) → code_fields (shape_of c.survey.fields) ≡ done ++ (first ++ rest)
-        → sets_of (boxes_along c (take (number_count c + length done + length first) path)) ≡ settled_after (shape_of c.survey.fields) c.row left first (sets_of (boxes_along c (take (number_count c + length done) path)))
+        → sets_of (boxes_along c (take (number_count c + length done + length first) path))
+        ≡ settled_after (shape_of c.survey.fields) c.row left first (sets_of (boxes_along c (take (number_count c + length done) path)))
     along done [] rest are = ap sets (omega arith)
     along done (f ∷ first) rest are =
         ap sets longer ∙ along (done ++ f ∷ []) first rest (are ∙ sym (append_assoc done (f ∷ []) (first ++ rest)))
-        ∙ ap (λ bs. settled_after shape c.row left first bs) (ap sets next ∙ sets-next done f (first ++ rest) are ∙ ap (λ b. if b then covered shape (sets (number_count c + length done)) f else fixed shape (sets (number_count c + length done)) f (code_in (value_of c.row f))) (sym (left_is f (there-in done f (first ++ rest) are))))
+        ∙ ap (λ bs. settled_after shape c.row left first bs)
+        (ap sets next ∙ sets-next done f (first ++ rest) are
+        ∙ ap (λ b. if b then covered shape (sets (number_count c + length done)) f else fixed shape (sets (number_count c + length done)) f
+        (code_in (value_of c.row f))) (sym (left_is f (there-in done f (first ++ rest) are))))
       where
         next : number_count c + length (done ++ f ∷ []) ≡ suc (number_count c + length done)
         next = omega (arith, length-append done (f ∷ []))
@@ -129,7 +144,9 @@ module _ (c : SearchCase) (path : List Bool) (whole : length path ≡ field_coun
 
     countable : IsCheap c path → AreCountable (shape_of c.survey.fields) c.row left (sets_of (boxes_along c (take (number_count c) path)))
     countable cheap first rest i are there =
-        subst (λ bs. cover_count shape bs i < 2 ^ 64) (ap sets behind ∙ along [] first (i ∷ rest) are ∙ ap (λ n. settled_after shape c.row left first (sets n)) start) (count-next first i rest are cheap (sym (left_is i (there-in first i rest are)) ∙ there))
+        subst (λ bs. cover_count shape bs i < 2 ^ 64) (ap sets behind ∙ along [] first (i ∷ rest) are
+        ∙ ap (λ n. settled_after shape c.row left first (sets n)) start)
+        (count-next first i rest are cheap (sym (left_is i (there-in first i rest are)) ∙ there))
       where
         behind : number_count c + length first ≡ number_count c + 0 + length first
         behind = omega arith
@@ -143,24 +160,33 @@ module _ (c : SearchCase) (path : List Bool) (whole : length path ≡ field_coun
     n = number_count c
 
     changed-first : changed_numbers c (take (number_count c) path) ≡ changed_numbers c path
-    changed-first = filter-agree (changes c.survey.fields (take n path)) (changes c.survey.fields path) (number_fields shape) (λ f at. get_or-take n path (path_place c.survey.fields f) false (number-place c f (there-has f (number_fields shape) at)))
+    changed-first =
+        filter-agree (changes c.survey.fields (take n path)) (changes c.survey.fields path) (number_fields shape)
+        (λ f at. get_or-take n path (path_place c.survey.fields f) false (number-place c f (there-has f (number_fields shape) at)))
 
     none-treated : (k : ℕ) (fields : List ℕ) → number_count c ≤ k → Placed c k fields → filter (treats c (take (number_count c) path)) fields ≡ []
     none-treated k [] past placed = refl
-    none-treated k (f ∷ fields) past placed = ap (λ b. if b then f ∷ filter (treats c (take n path)) fields else filter (treats c (take n path)) fields) out ∙ none-treated (suc k) fields (omega (arith, past)) placed.1
+    none-treated k (f ∷ fields) past placed =
+        ap (λ b. if b then f ∷ filter (treats c (take n path)) fields else filter (treats c (take n path)) fields) out
+        ∙ none-treated (suc k) fields (omega (arith, past)) placed.1
       where
         late : length (take (number_count c) path) ≤ path_place c.survey.fields f
         late = omega (arith, past, placed.0, length-take-le n path (omega (arith, whole, count-kinds c)))
 
         out : treats c (take (number_count c) path) f ≡ false
-        out = ap (λ b. not b || changes c.survey.fields (take n path) f) (get_or_past (take n path) (path_place c.survey.fields f) true late) ∙ get_or_past (take n path) (path_place c.survey.fields f) false late
+        out = ap (λ b. not b || changes c.survey.fields (take n path) f) (get_or_past (take n path) (path_place c.survey.fields f) true late)
+            ∙ get_or_past (take n path) (path_place c.survey.fields f) false late
 
-    boxes-first : (lines : List Derived) (boxes : List BoxFrom) → system_of c.edits (changed_numbers c path) ≡ Ok lines → failing_from 0 lines c.row [] ≡ Ok boxes → boxes_along c (take (number_count c) path) ≡ boxes
+    boxes-first : (lines : List Derived) (boxes : List BoxFrom) → system_of c.edits (changed_numbers c path) ≡ Ok lines
+        → failing_from 0 lines c.row [] ≡ Ok boxes → boxes_along c (take (number_count c) path) ≡ boxes
     boxes-first lines boxes system made =
         ap (λ fs. fold (boxes_after c (take n path)) (first_boxes c (take n path)) fs) (none-treated n codes (omega arith) (codes-placed c))
-        ∙ ap (λ fs. or_empty (failing_from 0 (or_empty (system_of c.edits fs)) c.row [])) changed-first ∙ ap (λ r. or_empty (failing_from 0 (or_empty r) c.row [])) system ∙ ap (λ r. or_empty r) made
+        ∙ ap (λ fs. or_empty (failing_from 0 (or_empty (system_of c.edits fs)) c.row [])) changed-first
+        ∙ ap (λ r. or_empty (failing_from 0 (or_empty r) c.row [])) system ∙ ap (λ r. or_empty r) made
 
     -- so each changed categorical field is eliminated with fewer than 2^64 pairs
-    pub few-pairs : IsCheap c path → (lines : List Derived) (boxes : List BoxFrom) → system_of c.edits (changed_numbers c path) ≡ Ok lines → failing_from 0 lines c.row [] ≡ Ok boxes
+    pub few-pairs : IsCheap c path → (lines : List Derived) (boxes : List BoxFrom) → system_of c.edits (changed_numbers c path) ≡ Ok lines
+        → failing_from 0 lines c.row [] ≡ Ok boxes
         → AreCountable (shape_of c.survey.fields) c.row left (sets_of boxes)
-    few-pairs cheap lines boxes system made = subst (λ (bs : List BoxFrom). AreCountable shape c.row left (sets_of bs)) (boxes-first lines boxes system made) (countable cheap)
+    few-pairs cheap lines boxes system made =
+        subst (λ (bs : List BoxFrom). AreCountable shape c.row left (sets_of bs)) (boxes-first lines boxes system made) (countable cheap)

@@ -1,4 +1,5 @@
-use Rattle.std.proofs.Common.{◌≡◌, ◌↔◌, ◌⊎◌, inl, inr, ◌&&◌, Bool, true, false, Option, Some, None, ℤ, pos, negsuc, ◌<ℤ◌, ◌≤ℤ◌, ◌+ℤ◌, ◌-ℤ◌, ◌*ℤ◌, refl, sym, ap, ◌∙◌, subst, arith}
+use Rattle.std.proofs.Common.{◌≡◌, ◌↔◌, ◌⊎◌, inl, inr, ◌&&◌, Bool, true, false, Option, Some, None, ℤ, pos, negsuc, ◌<ℤ◌, ◌≤ℤ◌, ◌+ℤ◌, ◌-ℤ◌, ◌*ℤ◌}
+use Rattle.std.proofs.Common.{refl, sym, ap, ◌∙◌, subst, arith}
 use lib.IntN.{neg_ℤ}
 use Rattle.std.proofs.lemmas.Int.{ints}
 use Rattle.fraction128.specs.Formulas.{Ratio}
@@ -14,7 +15,8 @@ use Rattle.back_subst.proofs.IntervalLaws.{depth}
 
 -- The ends of the interval of the allowed numbers, by these numbers alone.
 
-sum-gaps : (s x_n x_d y_n y_d z_n z_d : ℤ) → s *ℤ (z_n *ℤ x_d -ℤ x_n *ℤ z_d) *ℤ y_d ≡ s *ℤ (y_n *ℤ x_d -ℤ x_n *ℤ y_d) *ℤ z_d +ℤ s *ℤ (z_n *ℤ y_d -ℤ y_n *ℤ z_d) *ℤ x_d
+sum-gaps : (s x_n x_d y_n y_d z_n z_d : ℤ) → s *ℤ (z_n *ℤ x_d -ℤ x_n *ℤ z_d) *ℤ y_d
+    ≡ s *ℤ (y_n *ℤ x_d -ℤ x_n *ℤ y_d) *ℤ z_d +ℤ s *ℤ (z_n *ℤ y_d -ℤ y_n *ℤ z_d) *ℤ x_d
 sum-gaps s x_n x_d y_n y_d z_n z_d = rw (parts s, parts x_n, parts x_d, parts y_n, parts y_d, parts z_n, parts z_d) (simp ring (same_dif _ _ _ _ (omega arith)))
 
 reversed : (s x_n x_d y_n y_d : ℤ) → s *ℤ (x_n *ℤ y_d -ℤ y_n *ℤ x_d) ≡ neg_ℤ (s *ℤ (y_n *ℤ x_d -ℤ x_n *ℤ y_d))
@@ -37,7 +39,8 @@ least-or z none = by (by_sign z)
 clash : (z : ℤ) → pos 0 ≤ℤ neg_ℤ z → pos 0 <ℤ z → ⊥
 clash z h g = absurd (omega (arith, ints))
 
-module _ (side : ℤ) (unit : side *ℤ side ≡ pos 1) (allowed : Ratio → Type 0) (end other : Option End) (exact : (x : Ratio) → pos 0 <ℤ x.denominator → allowed x ↔ ((is_past_any side end x ≡ true) × (is_past_any (neg_ℤ side) other x ≡ true)))
+module _ (side : ℤ) (unit : side *ℤ side ≡ pos 1) (allowed : Ratio → Type 0) (end other : Option End)
+    (exact : (x : Ratio) → pos 0 <ℤ x.denominator → allowed x ↔ ((is_past_any side end x ≡ true) × (is_past_any (neg_ℤ side) other x ≡ true)))
     (y : Ratio) (y_above : pos 0 <ℤ y.denominator) (y_allowed : allowed y) where
   -- what lies between y and another number, seen from the side, is past the other end where y is
   past-before : (x : Ratio) → pos 0 <ℤ x.denominator → pos 0 <ℤ gap_from side x y → is_past_any (neg_ℤ side) other x ≡ true
@@ -49,22 +52,32 @@ module _ (side : ℤ) (unit : side *ℤ side ≡ pos 1) (allowed : Ratio → Typ
       by : (o : Option End) → is_past_any (neg_ℤ side) o y ≡ true → is_past_any (neg_ℤ side) o x ≡ true
       by None h = refl
       by (Some o) h =
-          (is_enough-Decides (bound_relation o.strict) (depth (neg_ℤ side) o x)).1 (IsEnough_cancel (bound_relation o.strict) (depth (neg_ℤ side) o x) y.denominator y_above
-          (subst (λ (z : ℤ). IsEnough (bound_relation o.strict) z) (sym (sum-gaps (neg_ℤ side) o.at.numerator o.at.denominator y.numerator y.denominator x.numerator x.denominator))
-          (IsEnough-more (bound_relation o.strict) (bound_relation o.strict) (depth (neg_ℤ side) o y *ℤ x.denominator) (neg_ℤ side *ℤ (x.numerator *ℤ y.denominator -ℤ y.numerator *ℤ x.denominator) *ℤ o.at.denominator) (bound_apart o.strict)
-          (IsEnough-times (bound_relation o.strict) (depth (neg_ℤ side) o y) x.denominator above ((is_enough-Decides (bound_relation o.strict) (depth (neg_ℤ side) o y)).0 h))
+          (is_enough-Decides (bound_relation o.strict) (depth (neg_ℤ side) o x)).1
+          (IsEnough_cancel (bound_relation o.strict) (depth (neg_ℤ side) o x) y.denominator y_above
+          (subst (λ (z : ℤ). IsEnough (bound_relation o.strict) z)
+          (sym (sum-gaps (neg_ℤ side) o.at.numerator o.at.denominator y.numerator y.denominator x.numerator x.denominator))
+          (IsEnough-more (bound_relation o.strict) (bound_relation o.strict) (depth (neg_ℤ side) o y *ℤ x.denominator)
+          (neg_ℤ side *ℤ (x.numerator *ℤ y.denominator -ℤ y.numerator *ℤ x.denominator) *ℤ o.at.denominator) (bound_apart o.strict)
+          (IsEnough-times (bound_relation o.strict) (depth (neg_ℤ side) o y) x.denominator above
+          ((is_enough-Decides (bound_relation o.strict) (depth (neg_ℤ side) o y)).0 h))
           (above-* _ o.at.denominator (subst (λ (z : ℤ). pos 0 <ℤ z) (turned side x.numerator x.denominator y.numerator y.denominator) gap) o.positive))))
 
   -- the end is the innermost fraction that no allowed number is outside of
   pub end-is : (e : End) → end ≡ Some e → IsEndOf side allowed e.at
   end-is e is = record {
-    none_outside = λ x above h. IsEnough-at_least (bound_relation e.strict) (depth side e x) ((is_enough-Decides (bound_relation e.strict) (depth side e x)).0 (subst (λ (o : Option End). is_past_any side o x ≡ true) is ((exact x above).0 h).0));
-    innermost = λ w above bound. least-or (gap_from side w e.at) (λ further. contrary w above bound (subst (λ (z : ℤ). pos 0 <ℤ z) (sym (reversed side w.numerator w.denominator e.at.numerator e.at.denominator)) further));
+    none_outside =
+        λ x above h. IsEnough-at_least (bound_relation e.strict) (depth side e x)
+        ((is_enough-Decides (bound_relation e.strict) (depth side e x)).0 (subst (λ (o : Option End). is_past_any side o x ≡ true) is ((exact x above).0 h).0));
+    innermost =
+        λ w above bound. least-or (gap_from side w e.at) (λ further. contrary w above bound
+        (subst (λ (z : ℤ). pos 0 <ℤ z) (sym (reversed side w.numerator w.denominator e.at.numerator e.at.denominator)) further));
   }
     where
-      contrary : (w : Ratio) → pos 0 <ℤ w.denominator → ((x : Ratio) → pos 0 <ℤ x.denominator → allowed x → pos 0 ≤ℤ gap_from side w x) → pos 0 <ℤ gap_from side e.at w → ⊥
+      contrary : (w : Ratio) → pos 0 <ℤ w.denominator → ((x : Ratio) → pos 0 <ℤ x.denominator → allowed x → pos 0 ≤ℤ gap_from side w x)
+          → pos 0 <ℤ gap_from side e.at w → ⊥
       contrary w above bound further =
-          clash (gap_from side m w) (subst (λ (z : ℤ). pos 0 ≤ℤ z) (reversed side m.numerator m.denominator w.numerator w.denominator) (bound m m_above m_allowed)) m_w
+          clash (gap_from side m w) (subst (λ (z : ℤ). pos 0 ≤ℤ z) (reversed side m.numerator m.denominator w.numerator w.denominator)
+          (bound m m_above m_allowed)) m_w
         where
           m : Ratio
           m = halfway e.at w
@@ -74,16 +87,19 @@ module _ (side : ℤ) (unit : side *ℤ side ≡ pos 1) (allowed : Ratio → Typ
 
           -- the middle is inside the end, and w inside the middle
           m_e : pos 0 <ℤ depth side e (halfway e.at w)
-          m_e = subst (λ (z : ℤ). pos 0 <ℤ z) (sym (middle-first side e.at.numerator e.at.denominator w.numerator w.denominator)) (above-* (gap_from side e.at w) e.at.denominator further e.positive)
+          m_e = subst (λ (z : ℤ). pos 0 <ℤ z) (sym (middle-first side e.at.numerator e.at.denominator w.numerator w.denominator))
+              (above-* (gap_from side e.at w) e.at.denominator further e.positive)
 
           m_w : pos 0 <ℤ gap_from side (halfway e.at w) w
-          m_w = subst (λ (z : ℤ). pos 0 <ℤ z) (sym (middle-second side e.at.numerator e.at.denominator w.numerator w.denominator)) (above-* (gap_from side e.at w) w.denominator further above)
+          m_w = subst (λ (z : ℤ). pos 0 <ℤ z) (sym (middle-second side e.at.numerator e.at.denominator w.numerator w.denominator))
+              (above-* (gap_from side e.at w) w.denominator further above)
 
           -- so y is inside the middle
           m_y : pos 0 <ℤ gap_from side (halfway e.at w) y
           m_y = above_cancel (gap_from side (halfway e.at w) y) w.denominator above
               (subst (λ (z : ℤ). pos 0 <ℤ z) (sym (sum-gaps side m.numerator m.denominator w.numerator w.denominator y.numerator y.denominator) ∙ refl)
-              (summed (gap_from side (halfway e.at w) w) y.denominator (gap_from side w y) (halfway e.at w).denominator m_w y_above (bound y y_above y_allowed) m_above))
+              (summed (gap_from side (halfway e.at w) w) y.denominator (gap_from side w y) (halfway e.at w).denominator m_w y_above
+              (bound y y_above y_allowed) m_above))
             where
               summed : (a b c d : ℤ) → pos 0 <ℤ a → pos 0 <ℤ b → pos 0 ≤ℤ c → pos 0 <ℤ d → pos 0 <ℤ (a *ℤ b +ℤ c *ℤ d)
               summed a b c d p q r t = more (above-* a b p q) (at_least-* c d r (omega (arith, ints)))
@@ -93,13 +109,17 @@ module _ (side : ℤ) (unit : side *ℤ side ≡ pos 1) (allowed : Ratio → Typ
 
           m_allowed : allowed (halfway e.at w)
           m_allowed = (exact (halfway e.at w) m_above).1 (
-            subst (λ (o : Option End). is_past_any side o (halfway e.at w) ≡ true) (sym is) ((is_enough-Decides (bound_relation e.strict) (depth side e (halfway e.at w))).1 (IsEnough-above (bound_relation e.strict) _ (bound_apart e.strict) m_e)),
+            subst (λ (o : Option End). is_past_any side o (halfway e.at w) ≡ true) (sym is)
+                ((is_enough-Decides (bound_relation e.strict) (depth side e (halfway e.at w))).1
+                (IsEnough-above (bound_relation e.strict) _ (bound_apart e.strict) m_e)),
             past-before (halfway e.at w) m_above m_y,
           )
 
   -- without an end there is no such fraction
   pub no-end : end ≡ None → (w : Ratio) → pos 0 <ℤ w.denominator → IsEndOf side allowed w → ⊥
-  no-end is w above bound = clash (gap_from side out w) (subst (λ (z : ℤ). pos 0 ≤ℤ z) (reversed side out.numerator out.denominator w.numerator w.denominator) (bound.none_outside out above out_allowed)) out_w
+  no-end is w above bound =
+      clash (gap_from side out w) (subst (λ (z : ℤ). pos 0 ≤ℤ z) (reversed side out.numerator out.denominator w.numerator w.denominator)
+      (bound.none_outside out above out_allowed)) out_w
     where
       -- one further out than w
       out : Ratio
@@ -112,10 +132,14 @@ module _ (side : ℤ) (unit : side *ℤ side ≡ pos 1) (allowed : Ratio → Typ
       once z = rw (parts z) (simp ring (same_dif _ _ _ _ (omega arith)))
 
       out_w : pos 0 <ℤ gap_from side (record { numerator = w.numerator -ℤ side *ℤ w.denominator; denominator = w.denominator }) w
-      out_w = subst (λ (z : ℤ). pos 0 <ℤ z) (sym (one-out side w.numerator w.denominator ∙ ap (λ (k : ℤ). k *ℤ (w.denominator *ℤ w.denominator)) unit ∙ once _)) (above-* w.denominator w.denominator above above)
+      out_w =
+          subst (λ (z : ℤ). pos 0 <ℤ z) (sym (one-out side w.numerator w.denominator ∙ ap (λ (k : ℤ). k *ℤ (w.denominator *ℤ w.denominator)) unit
+          ∙ once _)) (above-* w.denominator w.denominator above above)
 
       out_y : pos 0 <ℤ gap_from side (record { numerator = w.numerator -ℤ side *ℤ w.denominator; denominator = w.denominator }) y
-      out_y = above_cancel _ w.denominator above (subst (λ (z : ℤ). pos 0 <ℤ z) (sym (sum-gaps side (w.numerator -ℤ side *ℤ w.denominator) w.denominator w.numerator w.denominator y.numerator y.denominator))
+      out_y =
+          above_cancel _ w.denominator above (subst (λ (z : ℤ). pos 0 <ℤ z)
+          (sym (sum-gaps side (w.numerator -ℤ side *ℤ w.denominator) w.denominator w.numerator w.denominator y.numerator y.denominator))
           (summed _ y.denominator (gap_from side w y) w.denominator out_w y_above (bound.none_outside y y_above y_allowed) above))
         where
           summed : (a b c d : ℤ) → pos 0 <ℤ a → pos 0 <ℤ b → pos 0 ≤ℤ c → pos 0 <ℤ d → pos 0 <ℤ (a *ℤ b +ℤ c *ℤ d)
@@ -125,11 +149,17 @@ module _ (side : ℤ) (unit : side *ℤ side ≡ pos 1) (allowed : Ratio → Typ
               more h g = omega (arith, ints)
 
       out_allowed : allowed (record { numerator = w.numerator -ℤ side *ℤ w.denominator; denominator = w.denominator })
-      out_allowed = (exact _ above).1 (ap (λ (o : Option End). is_past_any side o (record { numerator = w.numerator -ℤ side *ℤ w.denominator; denominator = w.denominator })) is, past-before _ above out_y)
+      out_allowed =
+          (exact _ above).1 (
+            ap (λ (o : Option End). is_past_any side o
+                (record { numerator = w.numerator -ℤ side *ℤ w.denominator; denominator = w.denominator })) is,
+            past-before _ above out_y,
+          )
 
 -- ---- both ends of the interval of the allowed numbers
 
-module _ (allowed : Ratio → Type 0) (i : Interval) (exact : (x : Ratio) → pos 0 <ℤ x.denominator → allowed x ↔ (is_between i x ≡ true)) (y : Ratio) (y_above : pos 0 <ℤ y.denominator) (y_allowed : allowed y) where
+module _ (allowed : Ratio → Type 0) (i : Interval) (exact : (x : Ratio) → pos 0 <ℤ x.denominator → allowed x ↔ (is_between i x ≡ true)) (y : Ratio)
+    (y_above : pos 0 <ℤ y.denominator) (y_allowed : allowed y) where
   both : (a b : Bool) → a ≡ true → b ≡ true → (a && b) ≡ true
   both true b e h = h
   both false b e h = absurd (cc)

@@ -1,4 +1,5 @@
-use Rattle.std.proofs.Common.{◌≡◌, ◌⊎◌, inl, inr, ℕ, suc, ◌&&◌, ◌++◌, nat_lt, not, Bool, true, false, if◌then◌else◌, List, [], ◌∷◌, Option, Some, None, Ok, Err, append-nil, append_assoc, reverse, pos, refl, sym, ap, ◌∙◌, subst, arith}
+use Rattle.std.proofs.Common.{◌≡◌, ◌⊎◌, inl, inr, ℕ, suc, ◌&&◌, ◌++◌, nat_lt, not, Bool, true, false, if◌then◌else◌, List, [], ◌∷◌, Option, Some}
+use Rattle.std.proofs.Common.{None, Ok, Err, append-nil, append_assoc, reverse, pos, refl, sym, ap, ◌∙◌, subst, arith}
 use Rattle.std.specs.List.{filter}
 use Rattle.std.specs.Ordering.{int_eq}
 use Rattle.std.proofs.lemmas.Bool.Decides.{Decides-int_eq, Decides-ltb}
@@ -51,18 +52,23 @@ module _ (shape : List Domain) (row : List Value) (f : ℕ) (none : has_field (n
       by : (a b : Bool) → int_eq (factor line f) (pos 0) ≡ b → (a && not b) ≡ false
       by true true e = refl
       by false true e = refl
-      by a false e = absurd (cc (sym none ∙ subst (λ (s : List Domain). has_field (number_fields s) f ≡ true) is (factor-numerical line f (λ zero. absurd (cc (sym e ∙ (Decides-int_eq (factor line f) (pos 0)).1 zero))))))
+      by a false e =
+          absurd (cc (sym none ∙ subst (λ (s : List Domain). has_field (number_fields s) f ≡ true) is
+          (factor-numerical line f (λ zero. absurd (cc (sym e ∙ (Decides-int_eq (factor line f) (pos 0)).1 zero))))))
 
-  no-ends : (i : ℕ) (lines : List LineParts) (ends : FoundBounds) → ((line : LineParts) → IsIn line lines → line.shape ≡ shape) → bounds_from i lines row f ends ≡ Ok ends
+  no-ends : (i : ℕ) (lines : List LineParts) (ends : FoundBounds) → ((line : LineParts) → IsIn line lines → line.shape ≡ shape)
+      → bounds_from i lines row f ends ≡ Ok ends
   no-ends i [] ends over = refl
   no-ends i (line ∷ lines) ends over =
-      ap (λ b. if b then (ok_or (bound_at line row f) i >>= (λ at. bounds_from (suc i) lines row f (with_bound ends line f at i))) else bounds_from (suc i) lines row f ends) (no-bounding line (over line (inl refl)))
+      ap (λ b. if b then (ok_or (bound_at line row f) i >>= (λ at. bounds_from (suc i) lines row f (with_bound ends line f at i))) else bounds_from (suc i)
+      lines row f ends) (no-bounding line (over line (inl refl)))
       ∙ no-ends (suc i) lines ends (λ l there. over l (inr there))
 
 -- ---- the faults
 
 -- each number is what the system of the reduced edits gives
-pub computed-inner : (edits : EditsParts) (target : ℕ → Value) (row : List Value) (fields left : List ℕ) → AreComputed edits target row fields left → AreComputedBy (start_lines edits) target row fields left
+pub computed-inner : (edits : EditsParts) (target : ℕ → Value) (row : List Value) (fields left : List ℕ) → AreComputed edits target row fields left
+    → AreComputedBy (start_lines edits) target row fields left
 computed-inner edits target row [] left computed = tt
 computed-inner edits target row (f ∷ fields) left computed = (
   λ x e.
@@ -71,7 +77,8 @@ computed-inner edits target row (f ∷ fields) left computed = (
   computed-inner edits target row fields left computed.1,
 )
 
-module _ (survey : SurveyParts) (edits : EditsParts) (row : List Value) (changed : ℕ) (donor : Option (List Value)) (over : HaveShape (shape_of survey.fields) (start_lines edits)) where
+module _ (survey : SurveyParts) (edits : EditsParts) (row : List Value) (changed : ℕ) (donor : Option (List Value))
+    (over : HaveShape (shape_of survey.fields) (start_lines edits)) where
   abbrev order : List ℕ
   order = giving_order survey.fields changed
 
@@ -89,16 +96,22 @@ module _ (survey : SurveyParts) (edits : EditsParts) (row : List Value) (changed
   -- the fields of the order, each kind by itself
   last : AreNumbersLast (shape_of survey.fields) (giving_order survey.fields changed)
   last =
-      numbers-last (shape_of survey.fields) (reverse (filter (has_number changed) (corrections.code_fields survey.fields))) (reverse (filter (has_number changed) (corrections.number_fields survey.fields)))
-      (λ k there. ap (λ fs. has_field fs k) (sym (same_codes (corrections.code_fields survey.fields) survey.fields shape refl refl)) ∙ (has-filtered (has_number changed) (corrections.code_fields survey.fields) k (sym (has-reverse k (filter (has_number changed) (corrections.code_fields survey.fields))) ∙ there)).0)
-      (λ k there. ap (λ fs. has_field fs k) (sym (same_fields (corrections.number_fields survey.fields) survey.fields shape refl refl)) ∙ (has-filtered (has_number changed) (corrections.number_fields survey.fields) k (sym (has-reverse k (filter (has_number changed) (corrections.number_fields survey.fields))) ∙ there)).0)
+      numbers-last (shape_of survey.fields) (reverse (filter (has_number changed) (corrections.code_fields survey.fields)))
+      (reverse (filter (has_number changed) (corrections.number_fields survey.fields)))
+      (λ k there. ap (λ fs. has_field fs k) (sym (same_codes (corrections.code_fields survey.fields) survey.fields shape refl refl))
+      ∙ (has-filtered (has_number changed) (corrections.code_fields survey.fields) k
+      (sym (has-reverse k (filter (has_number changed) (corrections.code_fields survey.fields))) ∙ there)).0)
+      (λ k there. ap (λ fs. has_field fs k) (sym (same_fields (corrections.number_fields survey.fields) survey.fields shape refl refl))
+      ∙ (has-filtered (has_number changed) (corrections.number_fields survey.fields) k
+      (sym (has-reverse k (filter (has_number changed) (corrections.number_fields survey.fields))) ∙ there)).0)
 
   module _ (given left : List ℕ) (a b : List Value) (first : IsGivenTo given left a) (second : IsGivenTo given left b) where
     outside : SameBut (giving_order survey.fields changed) a b
     outside = (row-size survey.fields b second.fits ∙ sym (row-size survey.fields a first.fits), λ i absent. by i absent (has_number changed i) refl)
       where
         past : (i : ℕ) → has_field order i ≡ false → has_number changed i ≡ true → (values : List Value) → IsRow survey.fields values → value_of values i ≡ Bad
-        past i absent is values fits = past-end values i (λ below. absurd (cc (sym absent ∙ order-there survey changed i (omega (arith, below, row-size survey.fields values fits)) is)))
+        past i absent is values fits = past-end values i (λ below. absurd
+            (cc (sym absent ∙ order-there survey changed i (omega (arith, below, row-size survey.fields values fits)) is)))
 
         by : (i : ℕ) → has_field order i ≡ false → (t : Bool) → has_number changed i ≡ t → value_of b i ≡ value_of a i
         by i absent false e = second.keeps i e ∙ sym (first.keeps i e)
@@ -106,7 +119,8 @@ module _ (survey : SurveyParts) (edits : EditsParts) (row : List Value) (changed
 
     alike : SameBut left a b
     alike =
-        given-alike survey (start_lines edits) over (target_of donor) a b first.fits second.fits given left (subst (λ fs. AreNumbersLast (shape_of survey.fields) fs) first.order_is last) (subst (λ fs. SameBut fs a b) first.order_is outside)
+        given-alike survey (start_lines edits) over (target_of donor) a b first.fits second.fits given left
+        (subst (λ fs. AreNumbersLast (shape_of survey.fields) fs) first.order_is last) (subst (λ fs. SameBut fs a b) first.order_is outside)
         first.first first.computed second.first second.computed
 
   part : (given more left : List ℕ) (so_far : List Value) → IsGivenTo (given ++ more) left so_far → IsGivenTo given (more ++ left) so_far
@@ -130,7 +144,9 @@ module _ (survey : SurveyParts) (edits : EditsParts) (row : List Value) (changed
         by : (b : Bool) → has_field (number_fields (shape_of survey.fields)) f ≡ b → b ≡ true
         by true e = refl
         by false e =
-            let ends = no-ends shape so_far f e 0 (system (start_lines edits) (reverse left)) no_bounds (λ l there. in-all (λ k. k.shape ≡ shape) l (system (start_lines edits) (reverse left)) (λ j d below. (HaveShape-system shape (start_lines edits) (reverse left) over j d below).same) there) in
+            let ends = no-ends shape so_far f e 0 (system (start_lines edits) (reverse left)) no_bounds
+            (λ l there. in-all (λ k. k.shape ≡ shape) l (system (start_lines edits) (reverse left))
+            (λ j d below. (HaveShape-system shape (start_lines edits) (reverse left) over j d below).same) there) in
             absurd (cc (sym (ap (λ r. r >>= (λ ends. nearest_found ends (number_in (target_of donor f)))) ends) ∙ stops.out))
 
     numbers : (k : ℕ) → has_field left k ≡ true → has_field (number_fields (shape_of survey.fields)) k ≡ true
@@ -140,13 +156,16 @@ module _ (survey : SurveyParts) (edits : EditsParts) (row : List Value) (changed
         at [] h = h.0 numerical k there
         at (g ∷ fs) h = at fs h.1
 
-    told-alike : (new : List Value) → IsGivenTo given (f ∷ left) new → number_result (system (start_lines edits) (reverse left)) new f (number_in (target_of donor f)) ≡ Err line
+    told-alike : (new : List Value) → IsGivenTo given (f ∷ left) new
+        → number_result (system (start_lines edits) (reverse left)) new f (number_in (target_of donor f)) ≡ Err line
     told-alike new way =
-        same-number survey (start_lines edits) over f left numerical numbers so_far new stops.way.fits (alike given (f ∷ left) so_far new stops.way way) (number_in (target_of donor f)) ∙ stops.out
+        same-number survey (start_lines edits) over f left numerical numbers so_far new stops.way.fits (alike given (f ∷ left) so_far new stops.way way)
+        (number_in (target_of donor f)) ∙ stops.out
 
     -- so no later field is given a value
     not-later : (more rest : List ℕ) (new : List Value) → left ≡ more ++ rest → IsGivenTo (given ++ f ∷ more) rest new → ⊥
-    not-later more rest new left_is way = by (value_of new f) refl (first-later survey (start_lines edits) (target_of donor) new given (f ∷ more) rest way.first).0
+    not-later more rest new left_is way =
+        by (value_of new f) refl (first-later survey (start_lines edits) (target_of donor) new given (f ∷ more) rest way.first).0
       where
         here : number_result (system (start_lines edits) (reverse left)) new f (number_in (target_of donor f)) ≡ Err line
         here = told-alike new (subst (λ fs. IsGivenTo given (f ∷ fs) new) (sym left_is) (part given (f ∷ more) rest new way))
@@ -169,7 +188,8 @@ module _ (survey : SurveyParts) (edits : EditsParts) (row : List Value) (changed
       first = s.first;
       computed = computed-inner edits (target_of donor) s.so_far s.given (f ∷ s.left) s.computed;
     };
-    out = let (lines, is, told) = s.stops in ap (λ (ls : List LineParts). number_result ls s.so_far f (number_in (target_of donor f))) (sym (system-is edits (reverse s.left) lines is)) ∙ told;
+    out = let (lines, is, told) = s.stops in ap (λ (ls : List LineParts). number_result ls s.so_far f (number_in (target_of donor f)))
+        (sym (system-is edits (reverse s.left) lines is)) ∙ told;
   }
 
   -- a record that was given all its values
@@ -189,11 +209,13 @@ module _ (survey : SurveyParts) (edits : EditsParts) (row : List Value) (changed
   rule-whole : (rule : ℕ) (s : StopsAtRule survey edits row changed donor rule) → IsGivenTo (giving_order survey.fields changed) [] s.new
   rule-whole rule s = all-given s.new s.imputed s.computed
 
-  line-not_whole : (f line : ℕ) → StopsAtLine survey edits row changed donor f line → (new : List Value) → IsGivenTo (giving_order survey.fields changed) [] new → ⊥
+  line-not_whole : (f line : ℕ) → StopsAtLine survey edits row changed donor f line → (new : List Value)
+      → IsGivenTo (giving_order survey.fields changed) [] new → ⊥
   line-not_whole f line s new whole =
       not-later s.given f s.left s.so_far line (line-stops f line s) s.left [] new (sym (append-nil s.left)) (subst (λ fs. IsGivenTo fs [] new) s.order whole)
 
-  one-line : (f line g place : ℕ) → StopsAtLine survey edits row changed donor f line → StopsAtLine survey edits row changed donor g place → (f ≡ g) × (line ≡ place)
+  one-line : (f line g place : ℕ) → StopsAtLine survey edits row changed donor f line → StopsAtLine survey edits row changed donor g place
+      → (f ≡ g) × (line ≡ place)
   one-line f line g place s t = by (places s.given f s.left t.given g t.left (sym s.order ∙ t.order))
     where
       first : Stops s.given f s.left s.so_far line
@@ -206,16 +228,22 @@ module _ (survey : SurveyParts) (edits : EditsParts) (row : List Value) (changed
       by (inl (given, here, left)) = (
         here,
         line_same (told-alike s.given f s.left s.so_far line first t.so_far
-            (subst (λ (fs : List ℕ). IsGivenTo fs (f ∷ s.left) t.so_far) (sym given) (subst (λ (k : ℕ). IsGivenTo t.given (k ∷ s.left) t.so_far) (sym here) (subst (λ (fs : List ℕ). IsGivenTo t.given (g ∷ fs) t.so_far) (sym left) second.way))))
-            (ap (λ (k : ℕ). number_result (system (start_lines edits) (reverse s.left)) t.so_far k (number_in (target_of donor k))) here ∙ ap (λ (fs : List ℕ). number_result (system (start_lines edits) (reverse fs)) t.so_far g (number_in (target_of donor g))) left ∙ second.out),
+            (subst (λ (fs : List ℕ). IsGivenTo fs (f ∷ s.left) t.so_far) (sym given)
+            (subst (λ (k : ℕ). IsGivenTo t.given (k ∷ s.left) t.so_far) (sym here)
+            (subst (λ (fs : List ℕ). IsGivenTo t.given (g ∷ fs) t.so_far) (sym left) second.way))))
+            (ap (λ (k : ℕ). number_result (system (start_lines edits) (reverse s.left)) t.so_far k (number_in (target_of donor k))) here
+            ∙ ap (λ (fs : List ℕ). number_result (system (start_lines edits) (reverse fs)) t.so_far g (number_in (target_of donor g))) left ∙ second.out),
       )
         where
-          line_same : number_result (system (start_lines edits) (reverse s.left)) t.so_far f (number_in (target_of donor f)) ≡ Err line → number_result (system (start_lines edits) (reverse s.left)) t.so_far f (number_in (target_of donor f)) ≡ Err place → line ≡ place
+          line_same : number_result (system (start_lines edits) (reverse s.left)) t.so_far f (number_in (target_of donor f)) ≡ Err line
+              → number_result (system (start_lines edits) (reverse s.left)) t.so_far f (number_in (target_of donor f)) ≡ Err place → line ≡ place
           line_same one two = cc
       by (inr (inl (more, is, rest))) =
-          absurd (not-later s.given f s.left s.so_far line first more (g ∷ t.left) t.so_far rest (subst (λ (fs : List ℕ). IsGivenTo fs (g ∷ t.left) t.so_far) is second.way))
+          absurd (not-later s.given f s.left s.so_far line first more (g ∷ t.left) t.so_far rest
+          (subst (λ (fs : List ℕ). IsGivenTo fs (g ∷ t.left) t.so_far) is second.way))
       by (inr (inr (more, is, rest))) =
-          absurd (not-later t.given g t.left t.so_far place second more (f ∷ s.left) s.so_far rest (subst (λ (fs : List ℕ). IsGivenTo fs (f ∷ s.left) s.so_far) is first.way))
+          absurd (not-later t.given g t.left t.so_far place second more (f ∷ s.left) s.so_far rest
+          (subst (λ (fs : List ℕ). IsGivenTo fs (f ∷ s.left) s.so_far) is first.way))
 
   -- all values are given in one way
   one-whole : (a b : List Value) → IsGivenTo (giving_order survey.fields changed) [] a → IsGivenTo (giving_order survey.fields changed) [] b → b ≡ a
@@ -244,17 +272,28 @@ module _ (survey : SurveyParts) (edits : EditsParts) (row : List Value) (changed
   only-fault (Bound f line) (Test rule) s t = absurd (line-not_whole f line s t.new (rule-whole rule t))
   only-fault (Test rule) (Bound f line) s t = absurd (line-not_whole f line t s.new (rule-whole rule s))
   only-fault (Test r) (Test q) s t =
-      ap (λ n. Test n) (one-rule s.new r q s.first (subst (λ (new : List Value). IsFirstOut survey new q) (one-whole s.new t.new (rule-whole r s) (rule-whole q t)) t.first))
+      ap (λ n. Test n) (one-rule s.new r q s.first (subst (λ (new : List Value). IsFirstOut survey new q)
+      (one-whole s.new t.new (rule-whole r s) (rule-whole q t)) t.first))
   only-fault OutOfMemory due s t = absurd s
   only-fault told OutOfMemory s t = absurd t
 
   -- where all values are given and tested, none is shown
-  pub no-fault : (new : List Value) → IsRow survey.fields new → ((f : ℕ) → has_number changed f ≡ false → value_of new f ≡ value_of row f) → AreGivenFirst survey (target_of donor) new (giving_order survey.fields changed) []
-      → AreComputed edits (target_of donor) new (giving_order survey.fields changed) [] → AllHoldAt survey new → (due : GiveFault) → StopsThere survey edits row changed donor due → ⊥
+  pub no-fault : (new : List Value) → IsRow survey.fields new → ((f : ℕ) → has_number changed f ≡ false → value_of new f ≡ value_of row f)
+      → AreGivenFirst survey (target_of donor) new (giving_order survey.fields changed) []
+      → AreComputed edits (target_of donor) new (giving_order survey.fields changed) [] → AllHoldAt survey new → (due : GiveFault)
+      → StopsThere survey edits row changed donor due → ⊥
   no-fault new fits keeps first computed held due shown = by due shown
     where
       whole : IsGivenTo (giving_order survey.fields changed) [] new
-      whole = record { order_is = sym (append-nil order); fits = fits; keeps = keeps; first = first; computed = computed-inner edits (target_of donor) new order [] computed }
+      whole =
+          record {
+            order_is = sym (append-nil order);
+            fits = fits;
+            keeps = keeps;
+            first = first;
+            computed = computed-inner edits (target_of donor) new
+                order [] computed;
+          }
 
       by : (due : GiveFault) → StopsThere survey edits row changed donor due → ⊥
       by (Bound f line) s = line-not_whole f line s new whole
@@ -264,7 +303,8 @@ module _ (survey : SurveyParts) (edits : EditsParts) (row : List Value) (changed
       by OutOfMemory none = none
 
   -- a fault that is told is the only one that is shown
-  pub told-fault : (told : GiveFault) → ((f line : ℕ) → told ≡ Bound f line → StopsAtLine survey edits row changed donor f line) → ((rule : ℕ) → told ≡ Test rule → StopsAtRule survey edits row changed donor rule)
+  pub told-fault : (told : GiveFault) → ((f line : ℕ) → told ≡ Bound f line → StopsAtLine survey edits row changed donor f line)
+      → ((rule : ℕ) → told ≡ Test rule → StopsAtRule survey edits row changed donor rule)
       → (due : GiveFault) → StopsThere survey edits row changed donor due → (told ≡ due) ⊎ (told ≡ OutOfMemory)
   told-fault (Bound f line) bound test due shown = inl (only-fault (Bound f line) due (bound f line refl) shown)
   told-fault (Test rule) bound test due shown = inl (only-fault (Test rule) due (test rule refl) shown)

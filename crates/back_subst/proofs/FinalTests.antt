@@ -1,4 +1,5 @@
-use Rattle.std.proofs.Common.{◌≡◌, ◌≢◌, ℕ, zero, suc, ◌+◌, ◌<◌, Bool, true, List, [], ◌∷◌, Some, get_or, length, slice_get, nat_lt, false, refl, sym, ap, ◌∙◌, subst, arith}
+use Rattle.std.proofs.Common.{◌≡◌, ◌≢◌, ℕ, zero, suc, ◌+◌, ◌<◌, Bool, true, List, [], ◌∷◌, Some, get_or, length, slice_get, nat_lt, false, refl, sym}
+use Rattle.std.proofs.Common.{ap, ◌∙◌, subst, arith}
 use Rattle.std.specs.List.{AllByRecursion}
 use Rattle.std.proofs.lemmas.Bool.Decides.{nat_tests}
 use Rattle.edit_model.specs.Parts.{SurveyParts}
@@ -40,9 +41,14 @@ module _ (survey : SurveyParts) (row : List Value) (is_row : IsRow survey.fields
   agrees-on (test.Codes field negated set) has = completes.agrees field has.0 refl
 
   -- a rule that can be tried holds
-  pub tried : (rule : Rule) (i : ℕ) (b : Bool) → slice_get survey.rules i ≡ Some rule → CanTry row rule → rule_at rule row ≡ Some b → rule_at rule row ≡ Some true
+  pub tried : (rule : Rule) (i : ℕ) (b : Bool) → slice_get survey.rules i ≡ Some rule → CanTry row rule → rule_at rule row ≡ Some b
+      → rule_at rule row ≡ Some true
   tried rule i b there can e =
-      let agrees : AgreesOnRule row p rule = record { conditions = λ k d below. agrees-on _ (can.conditions k d below); conclusion = agrees-on _ can.conclusion } in
+      let agrees : AgreesOnRule row p rule = record {
+        conditions = λ k d below. agrees-on _ (can.conditions k d below);
+        conclusion = agrees-on _
+            can.conclusion;
+      } in
       e ∙ ap Some (rule_at-holds rule row p b can agrees e ∙ one-of (λ r. Holds r p) survey.rules i rule completes.correction.rules there)
 
 -- a rule that is there stands before the end
@@ -52,7 +58,8 @@ rule-below (r ∷ rules) zero rule there = omega arith
 rule-below (r ∷ rules) (suc k) rule there = let rest = rule-below rules k rule there in omega arith
 
 -- one rule more holds
-pub rules-more : (rules : List Rule) (row : List Value) (i : ℕ) (rule : Rule) → slice_get rules i ≡ Some rule → rule_at rule row ≡ Some true → ((k : ℕ) (earlier : Rule) → k < i → slice_get rules k ≡ Some earlier → rule_at earlier row ≡ Some true)
+pub rules-more : (rules : List Rule) (row : List Value) (i : ℕ) (rule : Rule) → slice_get rules i ≡ Some rule → rule_at rule row ≡ Some true
+    → ((k : ℕ) (earlier : Rule) → k < i → slice_get rules k ≡ Some earlier → rule_at earlier row ≡ Some true)
     → (k : ℕ) (earlier : Rule) → k < i + 1 → slice_get rules k ≡ Some earlier → rule_at earlier row ≡ Some true
 rules-more rules row i rule there holds before k earlier below found = by (nat_lt k i) refl
   where

@@ -1,4 +1,5 @@
-use Rattle.std.proofs.Common.{◌≡◌, ◌↔◌, ℕ, suc, ◌<◌, ◌==◌, ◌||◌, ◌&&◌, not, Bool, true, false, if◌then◌else◌, List, [], ◌∷◌, ◌++◌, All, Ok, IsTrue, length, map, slice_index_or, refl, sym, ap, ◌∙◌, subst, arith}
+use Rattle.std.proofs.Common.{◌≡◌, ◌↔◌, ℕ, suc, ◌<◌, ◌==◌, ◌||◌, ◌&&◌, not, Bool, true, false, if◌then◌else◌, List, [], ◌∷◌, ◌++◌, All, Ok, IsTrue}
+use Rattle.std.proofs.Common.{length, map, slice_index_or, refl, sym, ap, ◌∙◌, subst, arith}
 use Rattle.std.specs.List.{list_any}
 use Rattle.std.proofs.lemmas.Bool.Decides.{Decides-eqb}
 use Rattle.edit_line.specs.inner.LineFields.{IsCategorical}
@@ -55,40 +56,48 @@ module _ (shape : List Domain) (row : List Value) (left : List ℕ) (g : ℕ) wh
         by true = covered-whole shape j takes boxes sets
         by false = fixed-whole shape j takes boxes (code_in (value_of row j)) sets
 
-    but-keeps : (fields : List ℕ) (boxes : List (List ℕ)) → AreWhole shape (place_of shape j) boxes → AreWhole shape (place_of shape j) (settled_but shape row left g fields boxes)
+    but-keeps : (fields : List ℕ) (boxes : List (List ℕ)) → AreWhole shape (place_of shape j) boxes
+        → AreWhole shape (place_of shape j) (settled_but shape row left g fields boxes)
     but-keeps [] boxes all = all
     but-keeps (i ∷ fields) boxes all = by (i == g) (λ h. but-keeps fields boxes h) (λ h. but-keeps fields (settled_at shape row left i boxes) h)
       where
         by : (b : Bool) → (AreWhole shape (place_of shape j) boxes → AreWhole shape (place_of shape j) (settled_but shape row left g fields boxes))
-            → (AreWhole shape (place_of shape j) (settled_at shape row left i boxes) → AreWhole shape (place_of shape j) (settled_but shape row left g fields (settled_at shape row left i boxes)))
+            → (AreWhole shape (place_of shape j) (settled_at shape row left i boxes)
+            → AreWhole shape (place_of shape j) (settled_but shape row left g fields (settled_at shape row left i boxes)))
             → AreWhole shape (place_of shape j) (settled_but shape row left g fields (if b then boxes else settled_at shape row left i boxes))
         by true own rest = own all
         by false own rest = rest (at-keeps boxes i all)
 
-    but-makes : (fields : List ℕ) (boxes : List (List ℕ)) → HaveSets shape boxes → has_field fields j ≡ true → (j == g) ≡ false → AreWhole shape (place_of shape j) (settled_but shape row left g fields boxes)
+    but-makes : (fields : List ℕ) (boxes : List (List ℕ)) → HaveSets shape boxes → has_field fields j ≡ true → (j == g) ≡ false
+        → AreWhole shape (place_of shape j) (settled_but shape row left g fields boxes)
     but-makes [] boxes sets in_fields apart = absurd (cc)
     but-makes (i ∷ fields) boxes sets in_fields apart =
-        by (i == j) refl in_fields (i == g) refl (λ h. but-makes fields boxes sets h apart) (λ h. but-makes fields (settled_at shape row left i boxes) (next-sets shape row left g boxes i sets) h apart)
+        by (i == j) refl in_fields (i == g) refl (λ h. but-makes fields boxes sets h apart)
+        (λ h. but-makes fields (settled_at shape row left i boxes) (next-sets shape row left g boxes i sets) h apart)
       where
-        by : (a : Bool) → (i == j) ≡ a → (a || has_field fields j) ≡ true → (b : Bool) → (i == g) ≡ b → (has_field fields j ≡ true → AreWhole shape (place_of shape j) (settled_but shape row left g fields boxes))
+        by : (a : Bool) → (i == j) ≡ a → (a || has_field fields j) ≡ true → (b : Bool) → (i == g) ≡ b
+            → (has_field fields j ≡ true → AreWhole shape (place_of shape j) (settled_but shape row left g fields boxes))
             → (has_field fields j ≡ true → AreWhole shape (place_of shape j) (settled_but shape row left g fields (settled_at shape row left i boxes)))
             → AreWhole shape (place_of shape j) (settled_but shape row left g fields (if b then boxes else settled_at shape row left i boxes))
         by true e h true f own rest = absurd (cc (sym apart ∙ ap (λ k. k == g) (sym ((Decides-eqb i j).0 e)) ∙ f))
         by true e h false f own rest =
-            but-keeps fields (settled_at shape row left i boxes) (subst (λ k. AreWhole shape (place_of shape j) (settled_at shape row left k boxes)) (sym ((Decides-eqb i j).0 e)) (at-makes boxes sets))
+            but-keeps fields (settled_at shape row left i boxes)
+            (subst (λ k. AreWhole shape (place_of shape j) (settled_at shape row left k boxes)) (sym ((Decides-eqb i j).0 e)) (at-makes boxes sets))
         by false e h true f own rest = own h
         by false e h false f own rest = rest h
 
 -- ---- a box that is whole at all fields but one
 inside-whole : (fields b wholes : List ℕ) (code : ℕ → ℕ) → AreDistinct fields → length b ≡ length fields → length wholes ≡ length fields
-    → ((i : ℕ) → has_field fields i ≡ true → slice_index_or b (place_in fields i) 0 ≡ slice_index_or wholes (place_in fields i) 0) → are_codes_in wholes (map code fields) ≡ true → are_codes_in b (map code fields) ≡ true
+    → ((i : ℕ) → has_field fields i ≡ true → slice_index_or b (place_in fields i) 0 ≡ slice_index_or wholes (place_in fields i) 0)
+    → are_codes_in wholes (map code fields) ≡ true → are_codes_in b (map code fields) ≡ true
 inside-whole [] [] wholes code distinct sized same each inside = refl
 inside-whole [] (s ∷ b) wholes code distinct sized same each inside = absurd (omega arith)
 inside-whole (i ∷ fields) [] wholes code distinct sized same each inside = absurd (omega arith)
 inside-whole (i ∷ fields) (s ∷ b) [] code distinct sized same each inside = absurd (omega arith)
 inside-whole (i ∷ fields) (s ∷ b) (w ∷ wholes) code distinct sized same each inside =
     let (here, rest) = both_true (has_code w (code i)) _ inside in
-    ap (λ t. has_code t (code i) && are_codes_in b (map code fields)) first ∙ ap (λ t. t && are_codes_in b (map code fields)) here ∙ inside-whole fields b wholes code distinct.1 (omega arith) (omega arith) later rest
+    ap (λ t. has_code t (code i) && are_codes_in b (map code fields)) first ∙ ap (λ t. t && are_codes_in b (map code fields)) here
+    ∙ inside-whole fields b wholes code distinct.1 (omega arith) (omega arith) later rest
   where
     own : (i == i) ≡ true
     own = (Decides-eqb i i).1 refl
@@ -102,29 +111,35 @@ inside-whole (i ∷ fields) (s ∷ b) (w ∷ wholes) code distinct sized same ea
     later k there = by (i == k) refl (each k)
       where
         by : (t : Bool) → (i == k) ≡ t
-            → ((t || has_field fields k) ≡ true → slice_index_or (s ∷ b) (if t then 0 else suc (place_in fields k)) 0 ≡ slice_index_or (w ∷ wholes) (if t then 0 else suc (place_in fields k)) 0)
+            → ((t || has_field fields k) ≡ true → slice_index_or (s ∷ b) (if t then 0 else suc (place_in fields k)) 0
+            ≡ slice_index_or (w ∷ wholes) (if t then 0 else suc (place_in fields k)) 0)
             → slice_index_or b (place_in fields k) 0 ≡ slice_index_or wholes (place_in fields k) 0
         by true e h = absurd (cc (sym there ∙ ap (λ m. has_field fields m) (sym ((Decides-eqb i k).0 e)) ∙ distinct.0))
         by false e h = h there
 
-inside-free : (fields b wholes : List ℕ) (code : ℕ → ℕ) (g : ℕ) → AreDistinct fields → length b ≡ length fields → length wholes ≡ length fields → has_field fields g ≡ true
-    → ((i : ℕ) → has_field fields i ≡ true → (i == g) ≡ false → slice_index_or b (place_in fields i) 0 ≡ slice_index_or wholes (place_in fields i) 0) → are_codes_in wholes (map code fields) ≡ true
+inside-free : (fields b wholes : List ℕ) (code : ℕ → ℕ) (g : ℕ) → AreDistinct fields → length b ≡ length fields → length wholes ≡ length fields
+    → has_field fields g ≡ true
+    → ((i : ℕ) → has_field fields i ≡ true → (i == g) ≡ false → slice_index_or b (place_in fields i) 0 ≡ slice_index_or wholes (place_in fields i) 0)
+    → are_codes_in wholes (map code fields) ≡ true
     → are_codes_in b (map code fields) ≡ has_code (slice_index_or b (place_in fields g) 0) (code g)
 inside-free [] b wholes code g distinct sized same there each inside = absurd (cc)
 inside-free (i ∷ fields) [] wholes code g distinct sized same there each inside = absurd (omega arith)
 inside-free (i ∷ fields) (s ∷ b) [] code g distinct sized same there each inside = absurd (omega arith)
 inside-free (i ∷ fields) (s ∷ b) (w ∷ wholes) code g distinct sized same there each inside =
-    by (i == g) refl there (λ h. inside-free fields b wholes code g distinct.1 (omega arith) (omega arith) h (λ k k_there apart. later k k_there (λ h. each k h apart)) (both_true (has_code w (code i)) _ inside).1)
+    by (i == g) refl there (λ h. inside-free fields b wholes code g distinct.1 (omega arith) (omega arith) h
+    (λ k k_there apart. later k k_there (λ h. each k h apart)) (both_true (has_code w (code i)) _ inside).1)
   where
     own : (i == i) ≡ true
     own = (Decides-eqb i i).1 refl
 
-    later : (k : ℕ) → has_field fields k ≡ true → (has_field (i ∷ fields) k ≡ true → slice_index_or (s ∷ b) (place_in (i ∷ fields) k) 0 ≡ slice_index_or (w ∷ wholes) (place_in (i ∷ fields) k) 0)
+    later : (k : ℕ) → has_field fields k ≡ true → (has_field (i ∷ fields) k ≡ true
+        → slice_index_or (s ∷ b) (place_in (i ∷ fields) k) 0 ≡ slice_index_or (w ∷ wholes) (place_in (i ∷ fields) k) 0)
         → slice_index_or b (place_in fields k) 0 ≡ slice_index_or wholes (place_in fields k) 0
     later k k_there at = by (i == k) refl at
       where
         by : (t : Bool) → (i == k) ≡ t
-            → ((t || has_field fields k) ≡ true → slice_index_or (s ∷ b) (if t then 0 else suc (place_in fields k)) 0 ≡ slice_index_or (w ∷ wholes) (if t then 0 else suc (place_in fields k)) 0)
+            → ((t || has_field fields k) ≡ true → slice_index_or (s ∷ b) (if t then 0 else suc (place_in fields k)) 0
+            ≡ slice_index_or (w ∷ wholes) (if t then 0 else suc (place_in fields k)) 0)
             → slice_index_or b (place_in fields k) 0 ≡ slice_index_or wholes (place_in fields k) 0
         by true e h = absurd (cc (sym k_there ∙ ap (λ m. has_field fields m) (sym ((Decides-eqb i k).0 e)) ∙ distinct.0))
         by false e h = h k_there
@@ -133,7 +148,8 @@ inside-free (i ∷ fields) (s ∷ b) (w ∷ wholes) code g distinct sized same t
     and_true true = refl
     and_true false = refl
 
-    by : (t : Bool) → (i == g) ≡ t → (t || has_field fields g) ≡ true → (has_field fields g ≡ true → are_codes_in b (map code fields) ≡ has_code (slice_index_or b (place_in fields g) 0) (code g))
+    by : (t : Bool) → (i == g) ≡ t → (t || has_field fields g) ≡ true
+        → (has_field fields g ≡ true → are_codes_in b (map code fields) ≡ has_code (slice_index_or b (place_in fields g) 0) (code g))
         → (has_code s (code i) && are_codes_in b (map code fields)) ≡ has_code (slice_index_or (s ∷ b) (if t then 0 else suc (place_in fields g)) 0) (code g)
     by true e h rest =
         let is : i ≡ g = (Decides-eqb i g).0 e in
@@ -148,7 +164,8 @@ inside-free (i ∷ fields) (s ∷ b) (w ∷ wholes) code g distinct sized same t
             at false f = refl
             at true f = absurd (cc (sym k_there ∙ ap (λ m. has_field fields m) ((Decides-eqb k g).0 f ∙ sym is) ∙ distinct.0))
     by false e h rest =
-        ap (λ t. has_code t (code i) && are_codes_in b (map code fields)) first ∙ ap (λ t. t && are_codes_in b (map code fields)) (both_true (has_code w (code i)) _ inside).0 ∙ rest h
+        ap (λ t. has_code t (code i) && are_codes_in b (map code fields)) first
+        ∙ ap (λ t. t && are_codes_in b (map code fields)) (both_true (has_code w (code i)) _ inside).0 ∙ rest h
       where
         first : s ≡ w
         first =
@@ -156,41 +173,54 @@ inside-free (i ∷ fields) (s ∷ b) (w ∷ wholes) code g distinct sized same t
             ∙ each i (ap (λ t. t || has_field fields i) own) e ∙ ap (λ t. slice_index_or (w ∷ wholes) (if t then 0 else suc (place_in fields i)) 0) own
 
 -- the point avoids such boxes where they have not its code at the field
-pub avoids-free : (shape : List Domain) (boxes : List (List ℕ)) (g : ℕ) (p : Point) → has_field (code_fields shape) g ≡ true → HasCodes 0 shape p → HaveSets shape boxes
-    → ((j : ℕ) → has_field (code_fields shape) j ≡ true → (j == g) ≡ false → AreWhole shape (place_of shape j) boxes) → Avoids shape boxes p ↔ IsTrue (is_free shape boxes g (p.code g))
+pub avoids-free : (shape : List Domain) (boxes : List (List ℕ)) (g : ℕ) (p : Point) → has_field (code_fields shape) g ≡ true → HasCodes 0 shape p
+    → HaveSets shape boxes
+    → ((j : ℕ) → has_field (code_fields shape) j ≡ true → (j == g) ≡ false → AreWhole shape (place_of shape j) boxes)
+    → Avoids shape boxes p ↔ IsTrue (is_free shape boxes g (p.code g))
 avoids-free shape boxes g p there held sets whole =
     let same : list_any (λ b. are_codes_in b (codes_at shape p)) boxes ≡ list_any (λ b. has_code (slice_index_or b (place_of shape g) 0) (p.code g)) boxes =
     any-agree (λ b. are_codes_in b (codes_at shape p)) (λ b. has_code (slice_index_or b (place_of shape g) 0) (p.code g)) boxes (λ b is_in.
-    inside-free (code_fields shape) b (whole_sets shape) p.code g (distinct-from 0 shape) (sets b is_in) (length-wholes 0 shape) there (λ i i_there apart. (whole i i_there apart b is_in).whole) (wholes-inside shape p held)) in
+    inside-free (code_fields shape) b (whole_sets shape) p.code g (distinct-from 0 shape) (sets b is_in) (length-wholes 0 shape) there
+    (λ i i_there apart. (whole i i_there apart b is_in).whole) (wholes-inside shape p held)) in
     (λ h. ap not (sym same) ∙ h, λ h. ap not same ∙ h)
 
-but-sets : (shape : List Domain) (row : List Value) (left : List ℕ) (g : ℕ) (fields : List ℕ) (boxes : List (List ℕ)) → HaveSets shape boxes → HaveSets shape (settled_but shape row left g fields boxes)
+but-sets : (shape : List Domain) (row : List Value) (left : List ℕ) (g : ℕ) (fields : List ℕ) (boxes : List (List ℕ)) → HaveSets shape boxes
+    → HaveSets shape (settled_but shape row left g fields boxes)
 but-sets shape row left g [] boxes sets = sets
 but-sets shape row left g (i ∷ fields) boxes sets =
-    by (i == g) (but-sets shape row left g fields boxes sets) (but-sets shape row left g fields (settled_at shape row left i boxes) (next-sets shape row left g boxes i sets))
+    by (i == g) (but-sets shape row left g fields boxes sets)
+    (but-sets shape row left g fields (settled_at shape row left i boxes) (next-sets shape row left g boxes i sets))
   where
-    by : (b : Bool) → HaveSets shape (settled_but shape row left g fields boxes) → HaveSets shape (settled_but shape row left g fields (settled_at shape row left i boxes))
+    by : (b : Bool) → HaveSets shape (settled_but shape row left g fields boxes)
+        → HaveSets shape (settled_but shape row left g fields (settled_at shape row left i boxes))
         → HaveSets shape (settled_but shape row left g fields (if b then boxes else settled_at shape row left i boxes))
     by true own rest = own
     by false own rest = rest
 
 module _ (survey : SurveyParts) (edits : List LineParts) (row : List Value) (g : ℕ) (before numbers : List ℕ)
     (is_row : IsRow survey.fields row) (over : HaveShape (shape_of survey.fields) edits) (decide : DecideFor survey edits row (g ∷ (before ++ numbers)))
-    (categorical : IsCategorical (shape_of survey.fields) g) (all_numbers : All (IsNumerical (shape_of survey.fields)) numbers) (all_codes : (i : ℕ) → has_field before i ≡ true → IsCategorical (shape_of survey.fields) i)
-    (derived : List Derived) (derived_are : lines_of derived ≡ system edits numbers) (boxes : List (List ℕ)) (made : failing_boxes (lines_of derived) row ≡ Ok boxes)
+    (categorical : IsCategorical (shape_of survey.fields) g) (all_numbers : All (IsNumerical (shape_of survey.fields)) numbers)
+    (all_codes : (i : ℕ) → has_field before i ≡ true → IsCategorical (shape_of survey.fields) i)
+    (derived : List Derived) (derived_are : lines_of derived ≡ system edits numbers) (boxes : List (List ℕ))
+    (made : failing_boxes (lines_of derived) row ≡ Ok boxes)
     (p : Point) (completes : Completes survey row (g ∷ (before ++ numbers)) p) where
   -- where some correction completes the record, a code is allowed exactly where it is one of the field's, and no box has it after the other fields are settled
-  pub allowed-free : (code : ℕ) → AllowsCode survey row (g ∷ (before ++ numbers)) g code ↔ ((code < size_of (shape_of survey.fields) g) × IsTrue (is_free (shape_of survey.fields) (boxes_for (shape_of survey.fields) row before g boxes) g code))
+  pub allowed-free : (code : ℕ) → AllowsCode survey row (g ∷ (before ++ numbers)) g code ↔
+      ((code < size_of (shape_of survey.fields) g) × IsTrue (is_free (shape_of survey.fields) (boxes_for (shape_of survey.fields) row before g boxes) g code))
   allowed-free code =
-      let law = allowed-code survey edits row g before numbers is_row over decide categorical all_numbers all_codes derived derived_are boxes made p completes code in
+      let law = allowed-code survey edits row g before numbers is_row over decide categorical all_numbers all_codes derived derived_are boxes made p
+      completes code in
       let sets = have_sets survey edits row g before numbers is_row over decide categorical all_numbers all_codes derived derived_are boxes made p completes in
-      let free : (code < size_of (shape_of survey.fields) g) → Avoids (shape_of survey.fields) (boxes_for (shape_of survey.fields) row before g boxes) (with_code_at p g code)
+      let free : (code < size_of (shape_of survey.fields) g)
+      → Avoids (shape_of survey.fields) (boxes_for (shape_of survey.fields) row before g boxes) (with_code_at p g code)
       ↔ IsTrue (is_free (shape_of survey.fields) (boxes_for (shape_of survey.fields) row before g boxes) g code) =
       λ fits.
       let at = avoids-free (shape_of survey.fields) (boxes_for (shape_of survey.fields) row before g boxes) g (with_code_at p g code) categorical
       (HasCodes-with (shape_of survey.fields) p g code fits (HasCodes-shape 0 survey.fields p completes.correction.codes))
       (but-sets (shape_of survey.fields) row before g (code_fields (shape_of survey.fields)) boxes sets)
-      (λ j there apart. but-makes (shape_of survey.fields) row before g j there (let own = code-below (shape_of survey.fields) p j there (HasCodes-shape 0 survey.fields p completes.correction.codes) in omega arith) (code_fields (shape_of survey.fields)) boxes sets there apart) in
+      (λ j there apart. but-makes (shape_of survey.fields) row before g j there
+      (let own = code-below (shape_of survey.fields) p j there (HasCodes-shape 0 survey.fields p completes.correction.codes) in omega arith)
+      (code_fields (shape_of survey.fields)) boxes sets there apart) in
       subst (λ c. Avoids (shape_of survey.fields) (boxes_for (shape_of survey.fields) row before g boxes) (with_code_at p g code)
       ↔ IsTrue (is_free (shape_of survey.fields) (boxes_for (shape_of survey.fields) row before g boxes) g c)) (code-own p g code) at in
       (λ h. let (fits, avoids) = law.0 h in (fits, (free fits).0 avoids), λ h. law.1 (h.0, (free h.0).1 h.1))

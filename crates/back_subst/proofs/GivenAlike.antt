@@ -1,4 +1,5 @@
-use Rattle.std.proofs.Common.{◌≡◌, ◌≢◌, inl, inr, ℕ, ◌<◌, ◌==◌, ◌||◌, ◌++◌, ◌+◌, nat_lt, Bool, true, false, List, [], ◌∷◌, Ok, append-nil, append_assoc, length, reverse, slice_set, refl, sym, ap, ◌∙◌, subst, arith}
+use Rattle.std.proofs.Common.{◌≡◌, ◌≢◌, inl, inr, ℕ, ◌<◌, ◌==◌, ◌||◌, ◌++◌, ◌+◌, nat_lt, Bool, true, false, List, [], ◌∷◌, Ok, append-nil}
+use Rattle.std.proofs.Common.{append_assoc, length, reverse, slice_set, refl, sym, ap, ◌∙◌, subst, arith}
 use Rattle.std.proofs.lemmas.Bool.Decides.{Decides-eqb, Decides-ltb}
 use Rattle.fraction128.specs.Formulas.{Ratio, ratio_of}
 use Rattle.fraction128.specs.declared.fraction.Fraction.{Fraction}
@@ -48,7 +49,8 @@ module _ (fields : List Field) (row : List Value) (f : ℕ) (is_row : IsRow fiel
   pub has-number : (x : Fraction) → value_of row f ≡ Number x → has_field (number_fields (shape_of fields)) f ≡ true
   has-number x is = by (has_field (code_fields (shape_of fields)) f) refl (either (value-within row f (Number x) (λ e. absurd (cc e)) is))
     where
-      by : (b : Bool) → has_field (code_fields (shape_of fields)) f ≡ b → (b || has_field (number_fields (shape_of fields)) f) ≡ true → has_field (number_fields (shape_of fields)) f ≡ true
+      by : (b : Bool) → has_field (code_fields (shape_of fields)) f ≡ b → (b || has_field (number_fields (shape_of fields)) f) ≡ true
+          → has_field (number_fields (shape_of fields)) f ≡ true
       by true e h = absurd (subst (λ (v : Value). IsCodeValue v) is ((code-at fields row f is_row e).0 (λ bad. absurd (cc (sym is ∙ bad)))))
       by false e h = h
 
@@ -83,9 +85,11 @@ one-code allowed target a b first second = elim first.chosen [
 -- where a numerical field comes in the order, only numerical ones come after it
 abbrev pub AreNumbersLast : List Domain → List ℕ → Type 0
 AreNumbersLast shape [] = Unit {0}
-AreNumbersLast shape (f ∷ fields) = (has_field (number_fields shape) f ≡ true → (k : ℕ) → has_field fields k ≡ true → has_field (number_fields shape) k ≡ true) × AreNumbersLast shape fields
+AreNumbersLast shape (f ∷ fields) =
+    (has_field (number_fields shape) f ≡ true → (k : ℕ) → has_field fields k ≡ true → has_field (number_fields shape) k ≡ true) × AreNumbersLast shape fields
 
-pub numbers-last : (shape : List Domain) (codes numbers : List ℕ) → ((k : ℕ) → has_field codes k ≡ true → has_field (code_fields shape) k ≡ true) → ((k : ℕ) → has_field numbers k ≡ true → has_field (number_fields shape) k ≡ true) → AreNumbersLast shape (codes ++ numbers)
+pub numbers-last : (shape : List Domain) (codes numbers : List ℕ) → ((k : ℕ) → has_field codes k ≡ true → has_field (code_fields shape) k ≡ true)
+    → ((k : ℕ) → has_field numbers k ≡ true → has_field (number_fields shape) k ≡ true) → AreNumbersLast shape (codes ++ numbers)
 numbers-last shape [] [] codes_are numbers_are = tt
 numbers-last shape [] (f ∷ numbers) codes_are numbers_are = (
   λ number k there. numbers_are k (ap (λ b. (f == k) || b) there ∙ or_true (f == k)),
@@ -96,27 +100,36 @@ numbers-last shape (f ∷ codes) numbers codes_are numbers_are = (
   numbers-last shape codes numbers (λ k there. codes_are k (ap (λ b. (f == k) || b) there ∙ or_true (f == k))) numbers_are,
 )
 
-module _ (survey : SurveyParts) (edits : List LineParts) (over : HaveShape (shape_of survey.fields) edits) (target : ℕ → Value) (row new : List Value) (is_row : IsRow survey.fields row) (is_new : IsRow survey.fields new) where
+module _ (survey : SurveyParts) (edits : List LineParts) (over : HaveShape (shape_of survey.fields) edits) (target : ℕ → Value) (row new : List Value)
+    (is_row : IsRow survey.fields row) (is_new : IsRow survey.fields new) where
   abbrev shape : List Domain
   shape = shape_of survey.fields
 
   -- the record's number at a field is what the system gives, where others are left
   abbrev Computed : List Value → ℕ → List ℕ → Type 0
-  Computed values f left = (x : Fraction) → value_of values f ≡ Number x → number_result (system edits (reverse left)) values f (number_in (target f)) ≡ Ok (ratio_of x)
+  Computed values f left =
+      (x : Fraction) → value_of values f ≡ Number x → number_result (system edits (reverse left)) values f (number_in (target f)) ≡ Ok (ratio_of x)
 
-  one-value : (f : ℕ) (left : List ℕ) → SameBut (f ∷ left) row new → (has_field (number_fields shape) f ≡ true → (k : ℕ) → has_field left k ≡ true → has_field (number_fields shape) k ≡ true)
-      → IsGiven survey row (f ∷ left) f (target f) (value_of row f) → Computed row f left → IsGiven survey new (f ∷ left) f (target f) (value_of new f) → Computed new f left → value_of new f ≡ value_of row f
+  one-value : (f : ℕ) (left : List ℕ) → SameBut (f ∷ left) row new
+      → (has_field (number_fields shape) f ≡ true → (k : ℕ) → has_field left k ≡ true → has_field (number_fields shape) k ≡ true)
+      → IsGiven survey row (f ∷ left) f (target f) (value_of row f) → Computed row f left → IsGiven survey new (f ∷ left) f (target f) (value_of new f)
+      → Computed new f left → value_of new f ≡ value_of row f
   one-value f left same last given computed new_given new_computed = by (value_of row f) refl (value_of new f) refl given new_given
     where
-      by : (v : Value) → value_of row f ≡ v → (w : Value) → value_of new f ≡ w → IsGiven survey row (f ∷ left) f (target f) v → IsGiven survey new (f ∷ left) f (target f) w → value_of new f ≡ value_of row f
+      by : (v : Value) → value_of row f ≡ v → (w : Value) → value_of new f ≡ w → IsGiven survey row (f ∷ left) f (target f) v
+          → IsGiven survey new (f ∷ left) f (target f) w → value_of new f ≡ value_of row f
       by Bad e w h none some = absurd none
       by (Code c) e Bad h some none = absurd none
       by (Code c) e (Code d) h first second =
-          h ∙ ap (λ n. Code n) (one-code (AllowsCode survey new (f ∷ left) f) (code_in (target f)) d c second (IsGiven-rows survey (f ∷ left) (f ∷ left) row new (λ i. refl) same f (target f) (Code c) first)) ∙ sym e
-      by (Code c) e (Number y) h first second = absurd (cc (sym (has-code survey.fields row f is_row c e) ∙ number-no_code f 0 shape (has-number survey.fields new f is_new y h)))
+          h ∙ ap (λ n. Code n) (one-code (AllowsCode survey new (f ∷ left) f) (code_in (target f)) d c second
+          (IsGiven-rows survey (f ∷ left) (f ∷ left) row new (λ i. refl) same f (target f) (Code c) first)) ∙ sym e
+      by (Code c) e (Number y) h first second =
+          absurd (cc (sym (has-code survey.fields row f is_row c e) ∙ number-no_code f 0 shape (has-number survey.fields new f is_new y h)))
       by (Number x) e Bad h some none = absurd none
-      by (Number x) e (Code d) h first second = absurd (cc (sym (has-code survey.fields new f is_new d h) ∙ number-no_code f 0 shape (has-number survey.fields row f is_row x e)))
-      by (Number x) e (Number y) h first second = h ∙ ap (λ z. Number z) (Fraction-same y x (ap (λ (r : Ratio). r.numerator) ratios) (ap (λ (r : Ratio). r.denominator) ratios)) ∙ sym e
+      by (Number x) e (Code d) h first second =
+          absurd (cc (sym (has-code survey.fields new f is_new d h) ∙ number-no_code f 0 shape (has-number survey.fields row f is_row x e)))
+      by (Number x) e (Number y) h first second =
+          h ∙ ap (λ z. Number z) (Fraction-same y x (ap (λ (r : Ratio). r.numerator) ratios) (ap (λ (r : Ratio). r.denominator) ratios)) ∙ sym e
         where
           number : has_field (number_fields shape) f ≡ true
           number = has-number survey.fields row f is_row x e
@@ -136,23 +149,27 @@ module _ (survey : SurveyParts) (edits : List LineParts) (over : HaveShape (shap
       by i true own outside = subst (λ n. value_of new n ≡ value_of row n) ((Decides-eqb f i).0 own) here
       by i false own outside = same.1 i (ap (λ b. b || has_field left i) own ∙ outside)
 
-  pub given-alike : (given left : List ℕ) → AreNumbersLast shape (given ++ left) → SameBut (given ++ left) row new → AreGivenFirst survey target row given left → AreComputedBy edits target row given left
+  pub given-alike : (given left : List ℕ) → AreNumbersLast shape (given ++ left) → SameBut (given ++ left) row new
+      → AreGivenFirst survey target row given left → AreComputedBy edits target row given left
       → AreGivenFirst survey target new given left → AreComputedBy edits target new given left → SameBut left row new
   given-alike [] left last same first computed new_first new_computed = same
   given-alike (f ∷ given) left last same first computed new_first new_computed =
-      given-alike given left last.1 (narrowed f (given ++ left) same (one-value f (given ++ left) same last.0 first.0 computed.0 new_first.0 new_computed.0)) first.1 computed.1 new_first.1 new_computed.1
+      given-alike given left last.1 (narrowed f (given ++ left) same
+      (one-value f (given ++ left) same last.0 first.0 computed.0 new_first.0 new_computed.0)) first.1 computed.1 new_first.1 new_computed.1
 
 -- ---- the first of more fields
 
 module _ (survey : SurveyParts) (edits : List LineParts) (target : ℕ → Value) (row : List Value) where
   pub first-part : (given more left : List ℕ) → AreGivenFirst survey target row (given ++ more) left → AreGivenFirst survey target row given (more ++ left)
   first-part [] more left first = tt
-  first-part (f ∷ given) more left first = (subst (λ fs. IsGiven survey row (f ∷ fs) f (target f) (value_of row f)) (append_assoc given more left) first.0, first-part given more left first.1)
+  first-part (f ∷ given) more left first =
+      (subst (λ fs. IsGiven survey row (f ∷ fs) f (target f) (value_of row f)) (append_assoc given more left) first.0, first-part given more left first.1)
 
   pub computed-part : (given more left : List ℕ) → AreComputedBy edits target row (given ++ more) left → AreComputedBy edits target row given (more ++ left)
   computed-part [] more left computed = tt
   computed-part (f ∷ given) more left computed = (
-    subst (λ fs. (x : Fraction) → value_of row f ≡ Number x → number_result (system edits (reverse fs)) row f (number_in (target f)) ≡ Ok (ratio_of x)) (append_assoc given more left) computed.0,
+    subst (λ fs. (x : Fraction) → value_of row f ≡ Number x → number_result (system edits (reverse fs)) row f (number_in (target f)) ≡ Ok (ratio_of x))
+        (append_assoc given more left) computed.0,
     computed-part given more left computed.1,
   )
 
@@ -164,21 +181,25 @@ module _ (survey : SurveyParts) (edits : List LineParts) (target : ℕ → Value
   computed-later [] more left computed = computed
   computed-later (f ∷ given) more left computed = computed-later given more left computed.1
 
-  pub computed-joined : (given more left : List ℕ) → AreComputedBy edits target row given (more ++ left) → AreComputedBy edits target row more left → AreComputedBy edits target row (given ++ more) left
+  pub computed-joined : (given more left : List ℕ) → AreComputedBy edits target row given (more ++ left) → AreComputedBy edits target row more left
+      → AreComputedBy edits target row (given ++ more) left
   computed-joined [] more left first second = second
   computed-joined (f ∷ given) more left first second = (
-    subst (λ fs. (x : Fraction) → value_of row f ≡ Number x → number_result (system edits (reverse fs)) row f (number_in (target f)) ≡ Ok (ratio_of x)) (sym (append_assoc given more left)) first.0,
+    subst (λ fs. (x : Fraction) → value_of row f ≡ Number x → number_result (system edits (reverse fs)) row f (number_in (target f)) ≡ Ok (ratio_of x))
+        (sym (append_assoc given more left)) first.0,
     computed-joined given more left first.1 second,
   )
 
   -- all fields, where none is left
   pub first-all : (order : List ℕ) → AreGiven survey target row order → AreGivenFirst survey target row order []
   first-all [] given = tt
-  first-all (f ∷ order) given = (subst (λ fs. IsGiven survey row (f ∷ fs) f (target f) (value_of row f)) (sym (append-nil order)) given.0, first-all order given.1)
+  first-all (f ∷ order) given =
+      (subst (λ fs. IsGiven survey row (f ∷ fs) f (target f) (value_of row f)) (sym (append-nil order)) given.0, first-all order given.1)
 
 -- ---- one number more
 
-module _ (survey : SurveyParts) (edits : List LineParts) (over : HaveShape (shape_of survey.fields) edits) (target : ℕ → Value) (so_far : List Value) (is_row : IsRow survey.fields so_far) (f : ℕ) (left : List ℕ) (x : Fraction) (within : f < length so_far) where
+module _ (survey : SurveyParts) (edits : List LineParts) (over : HaveShape (shape_of survey.fields) edits) (target : ℕ → Value) (so_far : List Value)
+    (is_row : IsRow survey.fields so_far) (f : ℕ) (left : List ℕ) (x : Fraction) (within : f < length so_far) where
   abbrev next : List Value
   next = slice_set so_far f (Number x)
 
@@ -186,11 +207,14 @@ module _ (survey : SurveyParts) (edits : List LineParts) (over : HaveShape (shap
   number-is v w e = cc
 
   -- what was computed before is computed of the record with the number too
-  pub computed-turn : (given : List ℕ) → ((k : ℕ) → has_field (given ++ f ∷ left) k ≡ true → has_field (number_fields (shape_of survey.fields)) k ≡ true) → has_field given f ≡ false → AreComputedBy edits target so_far given (f ∷ left)
-      → number_result (system edits (reverse left)) so_far f (number_in (target f)) ≡ Ok (ratio_of x) → AreComputedBy edits target (slice_set so_far f (Number x)) (given ++ f ∷ []) left
+  pub computed-turn : (given : List ℕ) → ((k : ℕ) → has_field (given ++ f ∷ left) k ≡ true → has_field (number_fields (shape_of survey.fields)) k ≡ true)
+      → has_field given f ≡ false → AreComputedBy edits target so_far given (f ∷ left)
+      → number_result (system edits (reverse left)) so_far f (number_in (target f)) ≡ Ok (ratio_of x)
+      → AreComputedBy edits target (slice_set so_far f (Number x)) (given ++ f ∷ []) left
   computed-turn [] numbers apart computed here = (
     λ y e.
-        same-number survey edits over f left (numbers f (own-there f left)) (λ k there. numbers k (ap (λ b. (f == k) || b) there ∙ or_true (f == k))) so_far next is_row
+        same-number survey edits over f left (numbers f (own-there f left)) (λ k there. numbers k (ap (λ b. (f == k) || b) there ∙ or_true (f == k)))
+        so_far next is_row
         (same-but survey edits target so_far so_far f left (Number x) within (f ∷ left) (own-there f left)) (number_in (target f))
         ∙ here ∙ ap (λ z. Ok (ratio_of z)) (number-is x y (sym (value-set so_far f (Number x) within) ∙ e)),
     tt,
@@ -198,7 +222,8 @@ module _ (survey : SurveyParts) (edits : List LineParts) (over : HaveShape (shap
   computed-turn (g ∷ given) numbers apart computed here = (
     λ y e.
         ap (λ fs. number_result (system edits (reverse fs)) next g (number_in (target g))) (append_assoc given (f ∷ []) left)
-        ∙ same-number survey edits over g (given ++ f ∷ left) (numbers g (own-there g (given ++ f ∷ left))) (λ k there. numbers k (ap (λ b. (g == k) || b) there ∙ or_true (g == k))) so_far next is_row
+        ∙ same-number survey edits over g (given ++ f ∷ left) (numbers g (own-there g (given ++ f ∷ left)))
+        (λ k there. numbers k (ap (λ b. (g == k) || b) there ∙ or_true (g == k))) so_far next is_row
         (same-but survey edits target so_far so_far f left (Number x) within (g ∷ (given ++ f ∷ left)) listed) (number_in (target g))
         ∙ computed.0 y (sym (value-other so_far f g (Number x) (λ same. other.0 (sym same))) ∙ e),
     computed-turn given (λ k there. numbers k (ap (λ b. (g == k) || b) there ∙ or_true (g == k))) other.1 computed.1 here,

@@ -31,16 +31,31 @@ agrees-more row left f p agrees own i within absent = by (f == i) refl
 
 module _ (survey : SurveyParts) (target : ℕ → Value) (row : List Value) where
   -- a value that is given leaves a completion
-  pub given-next : (left : List ℕ) (f : ℕ) (v : Value) → value_of row f ≡ v → IsGiven survey row (f ∷ left) f (target f) v → (p : Point) → Completes survey row (f ∷ left) p → (q : Point) × Completes survey row left q
+  pub given-next : (left : List ℕ) (f : ℕ) (v : Value) → value_of row f ≡ v → IsGiven survey row (f ∷ left) f (target f) v → (p : Point)
+      → Completes survey row (f ∷ left) p → (q : Point) × Completes survey row left q
   given-next left f Bad is given p completes = absurd given
   given-next left f (Code c) is given p completes =
-      let (q, done, code) = given.is_allowed in
-      (q, record { correction = done.correction; agrees = agrees-more row left f q done.agrees (λ _. ap (λ (w : Value). differs_from w q f) is ∙ ap not ((Decides-eqb c (q.code f)).1 (sym code))) })
+      let (q, done, code) = given.is_allowed in (
+        q,
+        record {
+          correction = done.correction;
+          agrees = agrees-more row left f q done.agrees
+              (λ _. ap (λ (w : Value). differs_from w q f) is ∙ ap not ((Decides-eqb c (q.code f)).1 (sym code)));
+        },
+      )
   given-next left f (Number x) is given p completes =
-      let (q, done, number) = given-allowed (AllowsNumber survey row (f ∷ left) f) (number_in (target f)) (ratio_of x) (record { numerator = p.numerator f; denominator = p.denominator }) (number_in-above (target f)) x.positive p.positive (p, completes, refl) given in
-      (q, record { correction = done.correction; agrees = agrees-more row left f q done.agrees (λ _. ap (λ (w : Value). differs_from w q f) is ∙ ap not ((Decides-int_eq _ _).1 number)) })
+      let (q, done, number) = given-allowed (AllowsNumber survey row (f ∷ left) f) (number_in (target f)) (ratio_of x)
+      (record { numerator = p.numerator f; denominator = p.denominator }) (number_in-above (target f)) x.positive p.positive (p, completes, refl) given in (
+        q,
+        record {
+          correction = done.correction;
+          agrees = agrees-more row left f q done.agrees
+              (λ _. ap (λ (w : Value). differs_from w q f) is ∙ ap not ((Decides-int_eq _ _).1 number));
+        },
+      )
 
   -- where some correction completes the record, and the fields that are left are given values, some correction has all its values
   pub given-consistent : (left : List ℕ) → AreGiven survey target row left → (p : Point) → Completes survey row left p → (q : Point) × Completes survey row [] q
   given-consistent [] given p completes = (p, completes)
-  given-consistent (f ∷ left) given p completes = let (q, done) = given-next left f (value_of row f) refl given.0 p completes in given-consistent left given.1 q done
+  given-consistent (f ∷ left) given p completes = let (q, done) = given-next left f (value_of row f) refl given.0 p completes in given-consistent left
+      given.1 q done

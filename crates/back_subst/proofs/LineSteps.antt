@@ -1,4 +1,5 @@
-use Rattle.std.proofs.Common.{◌≡◌, ◌≢◌, ℕ, zero, suc, ◌+◌, ◌<◌, ◌≤◌, ◌&&◌, not, Bool, true, false, if◌then◌else◌, List, [], ◌∷◌, Option, Some, None, Result, Ok, Err, IfOk, OnOk, OnErr, drop, get_or, length, slice_set, ℤ, pos, refl, sym, ap, ◌∙◌, arith}
+use Rattle.std.proofs.Common.{◌≡◌, ◌≢◌, ℕ, zero, suc, ◌+◌, ◌<◌, ◌≤◌, ◌&&◌, not, Bool, true, false, if◌then◌else◌, List, [], ◌∷◌, Option, Some, None}
+use Rattle.std.proofs.Common.{Result, Ok, Err, IfOk, OnOk, OnErr, drop, get_or, length, slice_set, ℤ, pos, refl, sym, ap, ◌∙◌, arith}
 use lib.IntN.{neg_ℤ}
 use Rattle.std.specs.Ordering.{int_eq}
 use Rattle.std.proofs.Math.Seq.{drop-cons}
@@ -33,9 +34,11 @@ use Rattle.back_subst.specs.inner.Sides.{with_line}
 -- ---- places
 
 -- the factor that stands at the field's place
-pub factor-at : (shape : List Domain) (line : LineParts) (f place : ℕ) → line.shape ≡ shape → length line.factors ≡ length (number_fields line.shape) → place ≡ place_in (number_fields shape) f → get_or line.factors place (pos 0) ≡ factor line f
+pub factor-at : (shape : List Domain) (line : LineParts) (f place : ℕ) → line.shape ≡ shape → length line.factors ≡ length (number_fields line.shape)
+    → place ≡ place_in (number_fields shape) f → get_or line.factors place (pos 0) ≡ factor line f
 factor-at shape line f place same many at =
-    ap (λ k. get_or line.factors k (pos 0)) (at ∙ ap (λ s. place_in (number_fields s) f) (sym same)) ∙ beside-place line.factors (number_fields line.shape) f many
+    ap (λ k. get_or line.factors k (pos 0)) (at ∙ ap (λ s. place_in (number_fields s) f) (sym same))
+    ∙ beside-place line.factors (number_fields line.shape) f many
 
 -- ---- the rest
 
@@ -51,12 +54,16 @@ neg-apart a k is some none = some (back a (sym is ∙ none))
     back a h = omega (arith, ints)
 
 -- where the line bounds the field that has this factor, from its sum
-pub bound-answered : {E : Type 0} (line : LineParts) (row : List Value) (a k : ℤ) (rest : Fraction) (r : Result Fraction E) → k ≡ neg_ℤ a → a ≢ pos 0 → sum_at line row ≡ Ok (ratio_of rest)
-    → IfOk r (λ z. IsQuotient rest k z) → OnOk r (AllInRange (divided_numbers rest k)) → OnErr r (¬ AllInRange (divided_numbers rest k)) → answered r ≡ (result_ok (sum_at line row) >>? (λ s. divided s (neg_ℤ a)))
+pub bound-answered : {E : Type 0} (line : LineParts) (row : List Value) (a k : ℤ) (rest : Fraction) (r : Result Fraction E) → k ≡ neg_ℤ a → a ≢ pos 0
+    → sum_at line row ≡ Ok (ratio_of rest)
+    → IfOk r (λ z. IsQuotient rest k z) → OnOk r (AllInRange (divided_numbers rest k)) → OnErr r (¬ AllInRange (divided_numbers rest k))
+    → answered r ≡ (result_ok (sum_at line row) >>? (λ s. divided s (neg_ℤ a)))
 bound-answered line row a k rest r is some sum value fits overflow =
-    divided-answered rest k r (neg-apart a k is some) value fits overflow ∙ ap (λ (n : ℤ). divided (ratio_of rest) n) is ∙ ap (λ s. (result_ok s >>? (λ s. divided s (neg_ℤ a)))) (sym sum)
+    divided-answered rest k r (neg-apart a k is some) value fits overflow ∙ ap (λ (n : ℤ). divided (ratio_of rest) n) is
+    ∙ ap (λ s. (result_ok s >>? (λ s. divided s (neg_ℤ a)))) (sym sum)
 
-pub no-bound : (line : LineParts) (row : List Value) (a : ℤ) (f : ℕ) → sum_at line row ≡ Err f → None ≡ (result_ok (sum_at line row) >>? (λ s. divided s (neg_ℤ a)))
+pub no-bound : (line : LineParts) (row : List Value) (a : ℤ) (f : ℕ) → sum_at line row ≡ Err f
+    → None ≡ (result_ok (sum_at line row) >>? (λ s. divided s (neg_ℤ a)))
 no-bound line row a f sum = ap (λ s. (result_ok s >>? (λ s. divided s (neg_ℤ a)))) (sym sum)
 
 -- ---- one line
@@ -67,7 +74,9 @@ module _ (i f : ℕ) (line : LineParts) (row : List Value) (ends : FoundBounds) 
   by-bounding b e = ap (λ t. if t then (ok_or (bound_at line row f) i >>= (λ at. Ok (with_bound ends line f at i))) else Ok ends) (sym e)
 
   pub without-factor : factor line f ≡ pos 0 → Ok ends ≡ with_line i line row f ends
-  without-factor none = by-bounding false (ap (λ b. are_codes_in line.sets (codes_in line.shape row) && not b) ((Decides-int_eq (factor line f) (pos 0)).1 none) ∙ nothing (are_codes_in line.sets (codes_in line.shape row)))
+  without-factor none =
+      by-bounding false (ap (λ b. are_codes_in line.sets (codes_in line.shape row) && not b) ((Decides-int_eq (factor line f) (pos 0)).1 none)
+      ∙ nothing (are_codes_in line.sets (codes_in line.shape row)))
     where
       nothing : (b : Bool) → (b && false) ≡ false
       nothing true = refl
@@ -76,7 +85,8 @@ module _ (i f : ℕ) (line : LineParts) (row : List Value) (ends : FoundBounds) 
   pub without-codes : are_codes_in line.sets (codes_in line.shape row) ≡ false → Ok ends ≡ with_line i line row f ends
   without-codes out = by-bounding false (ap (λ b. b && not (int_eq (factor line f) (pos 0))) out)
 
-  module _ (inside : are_codes_in line.sets (codes_in line.shape row) ≡ true) (some : factor line f ≢ pos 0) (blank : value_of row f ≡ Bad) (o : Option Ratio) (o_is : o ≡ (result_ok (sum_at line row) >>? (λ s. divided s (neg_ℤ (factor line f))))) where
+  module _ (inside : are_codes_in line.sets (codes_in line.shape row) ≡ true) (some : factor line f ≢ pos 0) (blank : value_of row f ≡ Bad)
+      (o : Option Ratio) (o_is : o ≡ (result_ok (sum_at line row) >>? (λ s. divided s (neg_ℤ (factor line f))))) where
     bounding : is_bounding line row f ≡ true
     bounding = ap (λ b. b && not (int_eq (factor line f) (pos 0))) inside ∙ by (int_eq (factor line f) (pos 0)) refl
       where
@@ -116,7 +126,8 @@ module _ (i f : ℕ) (line : LineParts) (row : List Value) (ends : FoundBounds) 
     ends-ok : (ends' : FoundBounds) → Ok ends' ≡ with_line i line row f ends → bounds_from (suc i) rest row f ends' ≡ bounds_from i (line ∷ rest) row f ends
     ends-ok ends' e = ap next e ∙ ends-step
 
-module _ (lines : List Derived) (row : List Value) (i f : ℕ) (d : Derived) (ends : FoundBounds) (whole : Result FoundBounds ℕ) (below : i < length lines) (d_is : d ≡ get_or lines i d)
+module _ (lines : List Derived) (row : List Value) (i f : ℕ) (d : Derived) (ends : FoundBounds) (whole : Result FoundBounds ℕ) (below : i < length lines)
+    (d_is : d ≡ get_or lines i d)
     (before : bounds_from i (lines_of (drop i lines)) row f ends ≡ whole) where
   here : bounds_from i (d.line ∷ lines_of (drop (suc i) lines)) row f ends ≡ whole
   here =
@@ -124,10 +135,12 @@ module _ (lines : List Derived) (row : List Value) (i f : ℕ) (d : Derived) (en
       ∙ ap (λ ds. bounds_from i (lines_of ds) row f ends) (sym (drop-cons lines i d below)) ∙ before
 
   pub ends-more : (ends' : FoundBounds) → Ok ends' ≡ with_line i d.line row f ends → bounds_from (i + 1) (lines_of (drop (i + 1) lines)) row f ends' ≡ whole
-  ends-more ends' e = ap (λ n. bounds_from n (lines_of (drop n lines)) row f ends') next_place ∙ ends-ok i f d.line row ends (lines_of (drop (suc i) lines)) ends' e ∙ here
+  ends-more ends' e =
+      ap (λ n. bounds_from n (lines_of (drop n lines)) row f ends') next_place ∙ ends-ok i f d.line row ends (lines_of (drop (suc i) lines)) ends' e ∙ here
     where
       next_place : i + 1 ≡ suc i
       next_place = omega arith
 
-pub ends-end : (lines : List Derived) (row : List Value) (i f : ℕ) (ends : FoundBounds) (whole : Result FoundBounds ℕ) → length lines ≤ i → bounds_from i (lines_of (drop i lines)) row f ends ≡ whole → Ok ends ≡ whole
+pub ends-end : (lines : List Derived) (row : List Value) (i f : ℕ) (ends : FoundBounds) (whole : Result FoundBounds ℕ) → length lines ≤ i
+    → bounds_from i (lines_of (drop i lines)) row f ends ≡ whole → Ok ends ≡ whole
 ends-end lines row i f ends whole past before = ap (λ ds. bounds_from i (lines_of ds) row f ends) (sym (drop_all i lines past)) ∙ before

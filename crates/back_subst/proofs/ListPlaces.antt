@@ -38,14 +38,17 @@ one-place k a c b d distinct e = by (places a k c b k d e)
   where
     by : Places a k c b k d → a ≡ b
     by (inl (same, here, rest)) = same
-    by (inr (inl (more, is, rest))) = absurd (cc (sym (distinct-apart a c k distinct).1 ∙ ap (λ fs. has_field fs k) rest ∙ has-right k more (k ∷ d) (own-there k d)))
-    by (inr (inr (more, is, rest))) = absurd (cc (sym (distinct-apart a c k distinct).0 ∙ ap (λ fs. has_field fs k) is ∙ has-right k b (k ∷ more) (own-there k more)))
+    by (inr (inl (more, is, rest))) =
+        absurd (cc (sym (distinct-apart a c k distinct).1 ∙ ap (λ fs. has_field fs k) rest ∙ has-right k more (k ∷ d) (own-there k d)))
+    by (inr (inr (more, is, rest))) =
+        absurd (cc (sym (distinct-apart a c k distinct).0 ∙ ap (λ fs. has_field fs k) is ∙ has-right k b (k ∷ more) (own-there k more)))
 
 -- a field of a list has a place
 pub some-place : (k : ℕ) (fields : List ℕ) → has_field fields k ≡ true → (a : List ℕ) × (c : List ℕ) × (fields ≡ a ++ k ∷ c)
 some-place k [] there = absurd (cc)
 some-place k (f ∷ fields) there = by (f == k) refl there (some-place k fields)
   where
-    by : (b : Bool) → (f == k) ≡ b → (b || has_field fields k) ≡ true → (has_field fields k ≡ true → (a : List ℕ) × (c : List ℕ) × (fields ≡ a ++ k ∷ c)) → (a : List ℕ) × (c : List ℕ) × (f ∷ fields ≡ a ++ k ∷ c)
+    by : (b : Bool) → (f == k) ≡ b → (b || has_field fields k) ≡ true → (has_field fields k ≡ true → (a : List ℕ) × (c : List ℕ) × (fields ≡ a ++ k ∷ c))
+        → (a : List ℕ) × (c : List ℕ) × (f ∷ fields ≡ a ++ k ∷ c)
     by true e h rest = ([], fields, ap (λ n. n ∷ fields) ((Decides-eqb f k).0 e))
     by false e h rest = let (a, c, is) = rest h in (f ∷ a, c, ap (λ ns. f ∷ ns) is)

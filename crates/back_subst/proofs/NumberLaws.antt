@@ -1,4 +1,5 @@
-use Rattle.std.proofs.Common.{int_lt, ◌≡◌, ◌≢◌, ◌↔◌, ◌⊎◌, inl, inr, ℕ, zero, suc, ◌==◌, ◌||◌, ◌&&◌, not, Bool, true, false, if◌then◌else◌, List, [], ◌∷◌, All, IsTrue, slice_set, ℤ, pos, negsuc, ◌<ℤ◌, ◌+ℤ◌, ◌-ℤ◌, ◌*ℤ◌, refl, sym, ap, ◌∙◌, subst, arith}
+use Rattle.std.proofs.Common.{int_lt, ◌≡◌, ◌≢◌, ◌↔◌, ◌⊎◌, inl, inr, ℕ, zero, suc, ◌==◌, ◌||◌, ◌&&◌, not, Bool, true, false, if◌then◌else◌, List, []}
+use Rattle.std.proofs.Common.{◌∷◌, All, IsTrue, slice_set, ℤ, pos, negsuc, ◌<ℤ◌, ◌+ℤ◌, ◌-ℤ◌, ◌*ℤ◌, refl, sym, ap, ◌∙◌, subst, arith}
 use lib.IntN.{neg_ℤ}
 use Rattle.std.specs.List.{filter}
 use Rattle.std.specs.Ordering.{int_eq}
@@ -63,11 +64,14 @@ same_bound a x_n x_d d r_n r_d r h = opened a x_n x_d d r_d r ∙ ap (λ (k : �
     closed : (a x_n x_d d r_n r_d : ℤ) → a *ℤ x_n *ℤ d *ℤ r_d +ℤ r_n *ℤ d *ℤ x_d ≡ (a *ℤ x_n *ℤ r_d +ℤ r_n *ℤ x_d) *ℤ d
     closed a x_n x_d d r_n r_d = rw (parts a, parts x_n, parts x_d, parts d, parts r_n, parts r_d) (simp ring (same_dif _ _ _ _ (omega arith)))
 
-pub bound-over : (line : LineParts) (f : ℕ) (p : Point) (r x : Ratio) → r.numerator *ℤ p.denominator ≡ rest_at line f p *ℤ r.denominator → pos 0 <ℤ r.denominator → IsBoundedAt p f x line ↔ IsWithinBound line f r x
+pub bound-over : (line : LineParts) (f : ℕ) (p : Point) (r x : Ratio) → r.numerator *ℤ p.denominator ≡ rest_at line f p *ℤ r.denominator
+    → pos 0 <ℤ r.denominator → IsBoundedAt p f x line ↔ IsWithinBound line f r x
 bound-over line f p r x over above =
     let same = same_bound (factor line f) x.numerator x.denominator p.denominator r.numerator r.denominator (rest_at line f p) over in (
-      λ h. IsEnough_cancel line.relation _ p.denominator p.positive (subst (λ (z : ℤ). IsEnough line.relation z) same (IsEnough-times line.relation _ r.denominator above h)),
-      λ h. IsEnough_cancel line.relation _ r.denominator above (subst (λ (z : ℤ). IsEnough line.relation z) (sym same) (IsEnough-times line.relation _ p.denominator p.positive h)),
+      λ h. IsEnough_cancel line.relation _ p.denominator p.positive
+          (subst (λ (z : ℤ). IsEnough line.relation z) same (IsEnough-times line.relation _ r.denominator above h)),
+      λ h. IsEnough_cancel line.relation _ r.denominator above
+          (subst (λ (z : ℤ). IsEnough line.relation z) (sym same) (IsEnough-times line.relation _ p.denominator p.positive h)),
     )
 
 module _ (survey : SurveyParts) (edits : List LineParts) (row : List Value) (f : ℕ) (before : List ℕ)
@@ -126,7 +130,8 @@ module _ (survey : SurveyParts) (edits : List LineParts) (row : List Value) (f :
           let (of_number, within) = number-at survey.fields row i is_row numerical in
           let agrees : Agrees row p i = completes.agrees i within (ap (λ b. b || has_field before i) e ∙ outside (has_field before i) refl) in
           let at_zero : Agrees row (without_number p f) i =
-          Agrees-carried row p (without_number p f) i (put-code p f (pos 0) (pos 1) (omega (arith, ints)) i) ((put-differs p f (p.code f) (pos 0) (pos 1) (omega (arith, ints))).numbers i (λ same. apart (sym same))) agrees in
+          Agrees-carried row p (without_number p f) i (put-code p f (pos 0) (pos 1) (omega (arith, ints)) i)
+          ((put-differs p f (p.code f) (pos 0) (pos 1) (omega (arith, ints))).numbers i (λ same. apart (sym same))) agrees in
           subst (λ (v : Value). Adds (without_number p f) v i) (sym (value-other row f i Bad apart)) (inl (of_number (agrees-held row p i agrees), at_zero))
 
   -- where the rests are in range, the numbers allowed at f are those within the bounds that the lines of the system give at the record
@@ -135,9 +140,15 @@ module _ (survey : SurveyParts) (edits : List LineParts) (row : List Value) (f :
       let law = allowed-bounded survey edits row f before is_row over decide number numbers other p completes x above in (
         λ allowed line r there bounds rest.
             let at_record = rest-over line row p f r (adds-all line there) rest in
-            (bound-over line f p r x at_record.0 at_record.1).0 (law.0 allowed line there (subst (λ (cs : List ℕ). AreCodesIn line.sets cs) (ap (λ s. codes_in s row) (shape-of line there) ∙ sym codes-are) bounds.codes) bounds.stands),
+            (bound-over line f p r x at_record.0 at_record.1).0
+            (law.0 allowed line there (subst (λ (cs : List ℕ). AreCodesIn line.sets cs)
+            (ap (λ s. codes_in s row) (shape-of line there) ∙ sym codes-are) bounds.codes) bounds.stands),
         λ within. law.1 (λ line there inside some.
-            let bounds : BoundsField line row f = record { codes = subst (λ (cs : List ℕ). AreCodesIn line.sets cs) (codes-are ∙ ap (λ s. codes_in s row) (sym (shape-of line there))) inside; stands = some } in
+            let bounds : BoundsField line row f = record {
+              codes = subst (λ (cs : List ℕ). AreCodesIn line.sets cs)
+                  (codes-are ∙ ap (λ s. codes_in s row) (sym (shape-of line there))) inside;
+              stands = some;
+            } in
             let (r, rest) = fit line there bounds in
             let at_record = rest-over line row p f r (adds-all line there) rest in
             (bound-over line f p r x at_record.0 at_record.1).1 (within line r there bounds rest)),
@@ -191,7 +202,8 @@ module _ (survey : SurveyParts) (edits : List LineParts) (row : List Value) (f :
         record {
           above = above-* (factor line f) p.denominator above p.positive;
           says = λ x. same-enough line.relation _ _ (low-past (factor line f) x.numerator x.denominator p.denominator (rest_at line f p)
-              ∙ ap (λ b. side_of b *ℤ (x.numerator *ℤ (factor line f *ℤ p.denominator) -ℤ neg_ℤ (rest_at line f p) *ℤ x.denominator)) (sym (rising (factor line f) above)));
+              ∙ ap (λ b. side_of b *ℤ (x.numerator *ℤ (factor line f *ℤ p.denominator) -ℤ neg_ℤ (rest_at line f p) *ℤ x.denominator))
+              (sym (rising (factor line f) above)));
         },
       )
       by (inr (inl none)) = absurd (some none)
@@ -200,7 +212,8 @@ module _ (survey : SurveyParts) (edits : List LineParts) (row : List Value) (f :
         record {
           above = above-* (neg_ℤ (factor line f)) p.denominator (above_neg (factor line f) below) p.positive;
           says = λ x. same-enough line.relation _ _ (high-past (factor line f) x.numerator x.denominator p.denominator (rest_at line f p)
-              ∙ ap (λ b. side_of b *ℤ (x.numerator *ℤ (neg_ℤ (factor line f) *ℤ p.denominator) -ℤ rest_at line f p *ℤ x.denominator)) (sym (falling (factor line f) below)));
+              ∙ ap (λ b. side_of b *ℤ (x.numerator *ℤ (neg_ℤ (factor line f) *ℤ p.denominator) -ℤ rest_at line f p *ℤ x.denominator))
+              (sym (falling (factor line f) below)));
         },
       )
 
@@ -229,7 +242,8 @@ module _ (survey : SurveyParts) (edits : List LineParts) (row : List Value) (f :
       met x own rest l (inr there) = rest l there
 
   -- where some correction completes the record, the numbers allowed at f are an interval that is not empty, and its ends are fractions
-  pub allowed-interval : (i : Interval) × ((x : Ratio) → pos 0 <ℤ x.denominator → AllowsNumber survey row (f ∷ before) f x ↔ IsTrue (is_between i x)) × ((x : Ratio) × (pos 0 <ℤ x.denominator) × AllowsNumber survey row (f ∷ before) f x)
+  pub allowed-interval : (i : Interval) × ((x : Ratio) → pos 0 <ℤ x.denominator → AllowsNumber survey row (f ∷ before) f x ↔ IsTrue (is_between i x))
+      × ((x : Ratio) × (pos 0 <ℤ x.denominator) × AllowsNumber survey row (f ∷ before) f x)
   allowed-interval =
       let (ends, is) = bounds_of bounding (λ l there. stands l (both_true _ _ (in-filter-out _ l lines there).1).0) in (
         interval_of ends is.proper,
@@ -247,7 +261,8 @@ module _ (survey : SurveyParts) (edits : List LineParts) (row : List Value) (f :
           by false e = refl
           by true e = absurd (some ((Decides-int_eq (factor l f) (pos 0)).0 e))
 
-      exact : (x : Ratio) → pos 0 <ℤ x.denominator → (ends : FoundBounds) (is : AreBoundsOf bounding ends) → AllowsNumber survey row (f ∷ before) f x ↔ IsTrue (is_between (interval_of ends is.proper) x)
+      exact : (x : Ratio) → pos 0 <ℤ x.denominator → (ends : FoundBounds) (is : AreBoundsOf bounding ends)
+          → AllowsNumber survey row (f ∷ before) f x ↔ IsTrue (is_between (interval_of ends is.proper) x)
       exact x above ends is =
           let law = allowed-bounded survey edits row f before is_row over decide number numbers other p completes x above in (
             λ allowed. between-within ends is.proper x ∙ (is.tells x above).1 (λ line there.

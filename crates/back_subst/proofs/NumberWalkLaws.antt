@@ -1,4 +1,6 @@
-use Rattle.std.proofs.Common.{◌≡◌, ◌≢◌, ◌↔◌, ◌⊎◌, inl, inr, ℕ, suc, ◌||◌, ◌&&◌, not, Bool, true, false, if◌then◌else◌, List, [], ◌∷◌, Option, Some, None, Result, Ok, Err, slice_set, int_lt, ℤ, pos, negsuc, ◌<ℤ◌, ◌≤ℤ◌, ◌+ℤ◌, ◌-ℤ◌, ◌*ℤ◌, refl, sym, ap, ◌∙◌, subst, arith}
+use Rattle.std.proofs.Common.{◌≡◌, ◌≢◌, ◌↔◌, ◌⊎◌, inl, inr, ℕ, suc, ◌||◌, ◌&&◌, not, Bool, true, false, if◌then◌else◌, List, [], ◌∷◌, Option, Some}
+use Rattle.std.proofs.Common.{None, Result, Ok, Err, slice_set, int_lt, ℤ, pos, negsuc, ◌<ℤ◌, ◌≤ℤ◌, ◌+ℤ◌, ◌-ℤ◌, ◌*ℤ◌, refl, sym, ap, ◌∙◌, subst}
+use Rattle.std.proofs.Common.{arith}
 use lib.IntN.{neg_ℤ}
 use Rattle.std.specs.Ordering.{int_eq}
 use Rattle.std.proofs.lemmas.Bool.Decides.{Decides-int_eq}
@@ -32,7 +34,8 @@ use Rattle.edit_line.proofs.SetLaws.{both_true, is_inside-Decides}
 use Rattle.linear_elim.proofs.BetweenLaws.{above_neg, by_sign}
 use Rattle.back_subst.specs.Given.{IsGivenNumber, IsSame}
 use Rattle.back_subst.specs.Intervals.{End, Interval, further_in, is_past_any, is_between, kept_past}
-use Rattle.back_subst.specs.NumberWalk.{Found, FoundBounds, bound_at, bounded_by, bounds_from, found_at, inside_by, is_bounding, no_bounds, number_result, rest_of, step_in, tighter, unless_out, with_bound, with_found, nearest_found}
+use Rattle.back_subst.specs.NumberWalk.{Found, FoundBounds, bound_at, bounded_by, bounds_from, found_at, inside_by, is_bounding, no_bounds}
+use Rattle.back_subst.specs.NumberWalk.{number_result, rest_of, step_in, tighter, unless_out, with_bound, with_found, nearest_found}
 use Rattle.back_subst.specs.inner.Bounds.{AreWithinBounds, BoundsField, IsWithinBound, RestsFit}
 use Rattle.back_subst.specs.inner.Sides.{side_of}
 use Rattle.back_subst.proofs.BoundLaws.{bound-depth, further, further-in, minus, multiple, once}
@@ -78,28 +81,37 @@ interval_of ends h = record { lower = any_from ends.lower h.0; upper = any_from 
 
 pub between-within : (ends : FoundBounds) (h : AreProper ends) (x : Ratio) → is_between (interval_of ends h) x ≡ within_found ends x
 between-within ends h x =
-    ap (λ b. b && is_past_any (negsuc 0) (any_from ends.upper h.1) x) (past-any (pos 1) ends.lower h.0 x) ∙ ap (λ b. past_found (pos 1) ends.lower x && b) (past-any (negsuc 0) ends.upper h.1 x)
+    ap (λ b. b && is_past_any (negsuc 0) (any_from ends.upper h.1) x) (past-any (pos 1) ends.lower h.0 x)
+    ∙ ap (λ b. past_found (pos 1) ends.lower x && b) (past-any (negsuc 0) ends.upper h.1 x)
 
 -- ---- the tighter of two bounds
 
-module _ (side : ℤ) (old new : Found) (old_above : pos 0 <ℤ old.at.denominator) (new_above : pos 0 <ℤ new.at.denominator) (x : Ratio) (above : pos 0 <ℤ x.denominator) where
+module _ (side : ℤ) (old new : Found) (old_above : pos 0 <ℤ old.at.denominator) (new_above : pos 0 <ℤ new.at.denominator) (x : Ratio)
+    (above : pos 0 <ℤ x.denominator) where
   same-place : inside_by side old new.at ≡ pos 0 → inside_by side old x *ℤ new.at.denominator ≡ inside_by side new x *ℤ old.at.denominator
   same-place none =
-      further-in side new.at.numerator new.at.denominator old.at.numerator old.at.denominator x.numerator x.denominator ∙ ap (λ (z : ℤ). inside_by side new x *ℤ old.at.denominator +ℤ z *ℤ x.denominator) none
+      further-in side new.at.numerator new.at.denominator old.at.numerator old.at.denominator x.numerator x.denominator
+      ∙ ap (λ (z : ℤ). inside_by side new x *ℤ old.at.denominator +ℤ z *ℤ x.denominator) none
       ∙ nothing (inside_by side new x *ℤ old.at.denominator) x.denominator
     where
       nothing : (z d : ℤ) → z +ℤ pos 0 *ℤ d ≡ z
       nothing z d = rw (parts z, parts d) (simp ring (same_dif _ _ _ _ (omega arith)))
 
-  weaker : (first second : Found) → pos 0 <ℤ first.at.denominator → pos 0 <ℤ second.at.denominator → inside_by side second x *ℤ first.at.denominator ≡ inside_by side first x *ℤ second.at.denominator
-      → (first.strict || not second.strict) ≡ true → is_enough (bound_relation first.strict) (inside_by side first x) ≡ true → is_enough (bound_relation second.strict) (inside_by side second x) ≡ true
+  weaker : (first second : Found) → pos 0 <ℤ first.at.denominator → pos 0 <ℤ second.at.denominator
+      → inside_by side second x *ℤ first.at.denominator ≡ inside_by side first x *ℤ second.at.denominator
+      → (first.strict || not second.strict) ≡ true → is_enough (bound_relation first.strict) (inside_by side first x) ≡ true
+      → is_enough (bound_relation second.strict) (inside_by side second x) ≡ true
   weaker first second first_above second_above same either past =
-      (is_enough-Decides (bound_relation second.strict) _).1 (IsEnough_cancel (bound_relation second.strict) (inside_by side second x) first.at.denominator first_above
-      (subst (λ (z : ℤ). IsEnough (bound_relation second.strict) z) (sym same) (IsEnough-times (bound_relation second.strict) (inside_by side first x) second.at.denominator second_above
-      (IsEnough-weaker (bound_relation first.strict) (bound_relation second.strict) (inside_by side first x) (bound_implies first.strict second.strict ∙ either) ((is_enough-Decides (bound_relation first.strict) _).0 past)))))
+      (is_enough-Decides (bound_relation second.strict) _).1
+      (IsEnough_cancel (bound_relation second.strict) (inside_by side second x) first.at.denominator first_above
+      (subst (λ (z : ℤ). IsEnough (bound_relation second.strict) z) (sym same)
+      (IsEnough-times (bound_relation second.strict) (inside_by side first x) second.at.denominator second_above
+      (IsEnough-weaker (bound_relation first.strict) (bound_relation second.strict) (inside_by side first x)
+      (bound_implies first.strict second.strict ∙ either) ((is_enough-Decides (bound_relation first.strict) _).0 past)))))
 
   joined-new : (is_enough (bound_relation new.strict) (inside_by side new x) ≡ true → is_enough (bound_relation old.strict) (inside_by side old x) ≡ true)
-      → is_enough (bound_relation new.strict) (inside_by side new x) ≡ (is_enough (bound_relation old.strict) (inside_by side old x) && is_enough (bound_relation new.strict) (inside_by side new x))
+      → is_enough (bound_relation new.strict) (inside_by side new x)
+      ≡ (is_enough (bound_relation old.strict) (inside_by side old x) && is_enough (bound_relation new.strict) (inside_by side new x))
   joined-new implies = by (is_enough (bound_relation new.strict) (inside_by side new x)) (is_enough (bound_relation old.strict) (inside_by side old x)) implies
     where
       by : (a b : Bool) → (a ≡ true → b ≡ true) → a ≡ (b && a)
@@ -109,7 +121,8 @@ module _ (side : ℤ) (old new : Found) (old_above : pos 0 <ℤ old.at.denominat
       by false false h = refl
 
   joined-old : (is_enough (bound_relation old.strict) (inside_by side old x) ≡ true → is_enough (bound_relation new.strict) (inside_by side new x) ≡ true)
-      → is_enough (bound_relation old.strict) (inside_by side old x) ≡ (is_enough (bound_relation old.strict) (inside_by side old x) && is_enough (bound_relation new.strict) (inside_by side new x))
+      → is_enough (bound_relation old.strict) (inside_by side old x)
+      ≡ (is_enough (bound_relation old.strict) (inside_by side old x) && is_enough (bound_relation new.strict) (inside_by side new x))
   joined-old implies = by (is_enough (bound_relation old.strict) (inside_by side old x)) (is_enough (bound_relation new.strict) (inside_by side new x)) implies
     where
       by : (a b : Bool) → (a ≡ true → b ≡ true) → a ≡ (a && b)
@@ -120,7 +133,8 @@ module _ (side : ℤ) (old new : Found) (old_above : pos 0 <ℤ old.at.denominat
   reversed : (s n_n n_d o_n o_d : ℤ) → s *ℤ (o_n *ℤ n_d -ℤ n_n *ℤ o_d) ≡ neg_ℤ (s *ℤ (n_n *ℤ o_d -ℤ o_n *ℤ n_d))
   reversed s n_n n_d o_n o_d = rw (parts s, parts n_n, parts n_d, parts o_n, parts o_d) (simp ring (same_dif _ _ _ _ (omega arith)))
 
-  pub tighter-past : past_found side (Some (tighter side (Some old) new)) x ≡ (is_enough (bound_relation old.strict) (inside_by side old x) && is_enough (bound_relation new.strict) (inside_by side new x))
+  pub tighter-past : past_found side (Some (tighter side (Some old) new)) x
+      ≡ (is_enough (bound_relation old.strict) (inside_by side old x) && is_enough (bound_relation new.strict) (inside_by side new x))
   tighter-past = by (int_lt (pos 0) (inside_by side old new.at)) refl (int_eq (inside_by side old new.at) (pos 0)) refl new.strict refl old.strict refl
     where
       rising : (z : ℤ) → int_lt (pos 0) z ≡ true → pos 0 <ℤ z
@@ -137,19 +151,27 @@ module _ (side : ℤ) (old new : Found) (old_above : pos 0 <ℤ old.at.denominat
           at (inr (inl none)) = absurd (cc (sym apart ∙ (Decides-int_eq z (pos 0)).1 none))
           at (inr (inr down)) = above_neg z down
 
-      new_first : pos 0 <ℤ inside_by side old new.at → is_enough (bound_relation new.strict) (inside_by side new x) ≡ true → is_enough (bound_relation old.strict) (inside_by side old x) ≡ true
+      new_first : pos 0 <ℤ inside_by side old new.at → is_enough (bound_relation new.strict) (inside_by side new x) ≡ true
+          → is_enough (bound_relation old.strict) (inside_by side old x) ≡ true
       new_first gap past = further side (end_from new new_above) (end_from old old_above) x above gap past
 
-      old_first : pos 0 <ℤ neg_ℤ (inside_by side old new.at) → is_enough (bound_relation old.strict) (inside_by side old x) ≡ true → is_enough (bound_relation new.strict) (inside_by side new x) ≡ true
-      old_first gap past = further side (end_from old old_above) (end_from new new_above) x above (subst (λ (z : ℤ). pos 0 <ℤ z) (sym (reversed side new.at.numerator new.at.denominator old.at.numerator old.at.denominator)) gap) past
+      old_first : pos 0 <ℤ neg_ℤ (inside_by side old new.at) → is_enough (bound_relation old.strict) (inside_by side old x) ≡ true
+          → is_enough (bound_relation new.strict) (inside_by side new x) ≡ true
+      old_first gap past =
+          further side (end_from old old_above) (end_from new new_above) x above
+          (subst (λ (z : ℤ). pos 0 <ℤ z) (sym (reversed side new.at.numerator new.at.denominator old.at.numerator old.at.denominator)) gap) past
 
-      equal_old : int_eq (inside_by side old new.at) (pos 0) ≡ true → (old.strict || not new.strict) ≡ true → is_enough (bound_relation old.strict) (inside_by side old x) ≡ true → is_enough (bound_relation new.strict) (inside_by side new x) ≡ true
+      equal_old : int_eq (inside_by side old new.at) (pos 0) ≡ true → (old.strict || not new.strict) ≡ true
+          → is_enough (bound_relation old.strict) (inside_by side old x) ≡ true → is_enough (bound_relation new.strict) (inside_by side new x) ≡ true
       equal_old none either past = weaker old new old_above new_above (sym (same-place ((Decides-int_eq _ _).0 none))) either past
 
-      by : (a : Bool) → int_lt (pos 0) (inside_by side old new.at) ≡ a → (b : Bool) → int_eq (inside_by side old new.at) (pos 0) ≡ b → (c : Bool) → new.strict ≡ c → (d : Bool) → old.strict ≡ d
-          → past_found side (Some (if a || (b && (c && not d)) then new else old)) x ≡ (is_enough (bound_relation old.strict) (inside_by side old x) && is_enough (bound_relation new.strict) (inside_by side new x))
+      by : (a : Bool) → int_lt (pos 0) (inside_by side old new.at) ≡ a → (b : Bool) → int_eq (inside_by side old new.at) (pos 0) ≡ b → (c : Bool)
+          → new.strict ≡ c → (d : Bool) → old.strict ≡ d
+          → past_found side (Some (if a || (b && (c && not d)) then new else old)) x
+          ≡ (is_enough (bound_relation old.strict) (inside_by side old x) && is_enough (bound_relation new.strict) (inside_by side new x))
       by true e b f c g d h = joined-new (new_first (rising _ e))
-      by false e true f true g false h = joined-new (weaker new old new_above old_above (same-place ((Decides-int_eq _ _).0 f)) (ap (λ s. s || not old.strict) g))
+      by false e true f true g false h =
+          joined-new (weaker new old new_above old_above (same-place ((Decides-int_eq _ _).0 f)) (ap (λ s. s || not old.strict) g))
       by false e true f true g true h = joined-old (equal_old f (ap (λ s. s || not new.strict) h))
       by false e true f false g true h = joined-old (equal_old f (ap (λ s. s || not new.strict) h))
       by false e true f false g false h = joined-old (equal_old f (ap (λ s. s || not new.strict) h ∙ ap not g))
@@ -157,7 +179,8 @@ module _ (side : ℤ) (old new : Found) (old_above : pos 0 <ℤ old.at.denominat
 
 tighter-proper : (side : ℤ) (old : Option Found) (new : Found) → IsProper old → pos 0 <ℤ new.at.denominator → pos 0 <ℤ (tighter side old new).at.denominator
 tighter-proper side None new h above = above
-tighter-proper side (Some old) new h above = by (int_lt (pos 0) (inside_by side old new.at) || (int_eq (inside_by side old new.at) (pos 0) && (new.strict && not old.strict)))
+tighter-proper side (Some old) new h above =
+    by (int_lt (pos 0) (inside_by side old new.at) || (int_eq (inside_by side old new.at) (pos 0) && (new.strict && not old.strict)))
   where
     by : (b : Bool) → pos 0 <ℤ (if b then new else old).at.denominator
     by true = above
@@ -175,7 +198,9 @@ with-proper ends false new h above = (h.0, tighter-proper (negsuc 0) ends.upper 
 
 with-within : (ends : FoundBounds) (lower : Bool) (new : Found) → AreProper ends → pos 0 <ℤ new.at.denominator → (x : Ratio) → pos 0 <ℤ x.denominator
     → within_found (with_found ends lower new) x ≡ (within_found ends x && past_found (side_of lower) (Some new) x)
-with-within ends true new h above x x_above = ap (λ b. b && past_found (negsuc 0) ends.upper x) (any-tighter (pos 1) ends.lower new h.0 above x x_above) ∙ turned (past_found (pos 1) ends.lower x) (past_found (pos 1) (Some new) x) (past_found (negsuc 0) ends.upper x)
+with-within ends true new h above x x_above =
+    ap (λ b. b && past_found (negsuc 0) ends.upper x) (any-tighter (pos 1) ends.lower new h.0 above x x_above)
+    ∙ turned (past_found (pos 1) ends.lower x) (past_found (pos 1) (Some new) x) (past_found (negsuc 0) ends.upper x)
   where
     turned : (a b c : Bool) → ((a && b) && c) ≡ ((a && c) && b)
     turned true true true = refl
@@ -183,7 +208,9 @@ with-within ends true new h above x x_above = ap (λ b. b && past_found (negsuc 
     turned true false true = refl
     turned true false false = refl
     turned false b c = refl
-with-within ends false new h above x x_above = ap (λ b. past_found (pos 1) ends.lower x && b) (any-tighter (negsuc 0) ends.upper new h.1 above x x_above) ∙ turned (past_found (pos 1) ends.lower x) (past_found (negsuc 0) ends.upper x) (past_found (negsuc 0) (Some new) x)
+with-within ends false new h above x x_above =
+    ap (λ b. past_found (pos 1) ends.lower x && b) (any-tighter (negsuc 0) ends.upper new h.1 above x x_above)
+    ∙ turned (past_found (pos 1) ends.lower x) (past_found (negsuc 0) ends.upper x) (past_found (negsuc 0) (Some new) x)
   where
     turned : (a b c : Bool) → (a && (b && c)) ≡ ((a && b) && c)
     turned true b c = refl
@@ -242,14 +269,16 @@ closed-both lower gap = as_one (is_enough AtLeast (pos 1 *ℤ gap) && is_enough 
         ((is_enough-Decides AtLeast (pos 1 *ℤ gap)).1 (least _ (once gap ∙ at)))
         ((is_enough-Decides AtLeast (negsuc 0 *ℤ gap)).1 (least _ (minus gap ∙ no_neg gap at)))
 
-pub bounds-proper : (relation : Relation) (ends : FoundBounds) (lower : Bool) (at : Ratio) (i : ℕ) → AreProper ends → pos 0 <ℤ at.denominator → AreProper (bounded_by relation ends lower at i)
+pub bounds-proper : (relation : Relation) (ends : FoundBounds) (lower : Bool) (at : Ratio) (i : ℕ) → AreProper ends → pos 0 <ℤ at.denominator
+    → AreProper (bounded_by relation ends lower at i)
 bounds-proper AtLeast ends lower at i h above = with-proper ends lower (found_at at false i) h above
 bounds-proper Above ends lower at i h above = with-proper ends lower (found_at at true i) h above
 bounds-proper Equal ends lower at i h above =
     with-proper (with_found ends true (found_at at false i)) false (found_at at false i) (with-proper ends true (found_at at false i) h above) above
 
 -- a number is within the bounds of a line and those before it where it is within those and enough for the line's relation
-pub bounds-within : (relation : Relation) (ends : FoundBounds) (lower : Bool) (at : Ratio) (i : ℕ) → AreProper ends → pos 0 <ℤ at.denominator → (x : Ratio) → pos 0 <ℤ x.denominator
+pub bounds-within : (relation : Relation) (ends : FoundBounds) (lower : Bool) (at : Ratio) (i : ℕ) → AreProper ends → pos 0 <ℤ at.denominator → (x : Ratio)
+    → pos 0 <ℤ x.denominator
     → within_found (bounded_by relation ends lower at i) x ≡ (within_found ends x && is_enough relation (inside_at lower at x))
 bounds-within AtLeast ends lower at i h above x x_above = with-within ends lower (found_at at false i) h above x x_above
 bounds-within Above ends lower at i h above x x_above = with-within ends lower (found_at at true i) h above x x_above
@@ -263,7 +292,8 @@ bounds-within Equal ends lower at i h above x x_above =
     together true b c = refl
     together false b c = refl
 
-field_led : (g : ℕ) (o : Option Ratio) (next : Ratio → Result Ratio ℕ) (s : Ratio) → (ok_or o g >>= next) ≡ Ok s → (sum : Ratio) × (o ≡ Some sum) × (next sum ≡ Ok s)
+field_led : (g : ℕ) (o : Option Ratio) (next : Ratio → Result Ratio ℕ) (s : Ratio) → (ok_or o g >>= next) ≡ Ok s
+    → (sum : Ratio) × (o ≡ Some sum) × (next sum ≡ Ok s)
 field_led g None next s e = absurd (cc)
 field_led g (Some sum) next s e = (sum, refl, e)
 
@@ -279,7 +309,8 @@ next-above a v sum s above e = by (int_eq a (pos 0)) v e
         let (y, first, second) = led_on (scaled (ratio_of x) a) (λ y. added sum y) s h in
         (added-value sum y s above (scaled-value (ratio_of x) a y x.positive first).1 second).1
 
-sum-above : (fields : List ℕ) (factors : List ℤ) (row : List Value) (sum s : Ratio) → pos 0 <ℤ sum.denominator → sum_from fields factors row sum ≡ Ok s → pos 0 <ℤ s.denominator
+sum-above : (fields : List ℕ) (factors : List ℤ) (row : List Value) (sum s : Ratio) → pos 0 <ℤ sum.denominator → sum_from fields factors row sum ≡ Ok s
+    → pos 0 <ℤ s.denominator
 sum-above [] factors row sum s above e = let same : sum ≡ s = cc in subst (λ (r : Ratio). pos 0 <ℤ r.denominator) same above
 sum-above (g ∷ fields) [] row sum s above e = let same : sum ≡ s = cc in subst (λ (r : Ratio). pos 0 <ℤ r.denominator) same above
 sum-above (g ∷ fields) (a ∷ factors) row sum s above e =
@@ -291,7 +322,8 @@ rest-above line row f r e = sum-above (number_fields line.shape) line.factors (s
 
 -- the bound that is found says what the line says
 bound-found : (relation : Relation) (a : ℤ) (r at : Ratio) → a ≢ pos 0 → pos 0 <ℤ r.denominator → divided r (neg_ℤ a) ≡ Some at → (x : Ratio)
-    → (pos 0 <ℤ at.denominator) × ((is_enough relation (inside_at (int_lt (pos 0) a) at x) ≡ true) ↔ IsEnough relation (a *ℤ x.numerator *ℤ r.denominator +ℤ r.numerator *ℤ x.denominator))
+    → (pos 0 <ℤ at.denominator) × ((is_enough relation (inside_at (int_lt (pos 0) a) at x) ≡ true) ↔ IsEnough relation
+    (a *ℤ x.numerator *ℤ r.denominator +ℤ r.numerator *ℤ x.denominator))
 bound-found relation a r at some above e x = (quotient.1, by (int_lt (pos 0) a) refl)
   where
     no_neg : (z : ℤ) → neg_ℤ z ≡ pos 0 → z ≡ pos 0
@@ -300,7 +332,8 @@ bound-found relation a r at some above e x = (quotient.1, by (int_lt (pos 0) a) 
     quotient : (r.numerator *ℤ at.denominator ≡ at.numerator *ℤ neg_ℤ a *ℤ r.denominator) × (pos 0 <ℤ at.denominator)
     quotient = divided-value r (neg_ℤ a) at above (λ none. some (no_neg a none)) e
 
-    depths : (a *ℤ x.numerator *ℤ r.denominator +ℤ r.numerator *ℤ x.denominator) *ℤ at.denominator ≡ a *ℤ r.denominator *ℤ (x.numerator *ℤ at.denominator -ℤ at.numerator *ℤ x.denominator)
+    depths : (a *ℤ x.numerator *ℤ r.denominator +ℤ r.numerator *ℤ x.denominator) *ℤ at.denominator
+        ≡ a *ℤ r.denominator *ℤ (x.numerator *ℤ at.denominator -ℤ at.numerator *ℤ x.denominator)
     depths = bound-depth a x.numerator x.denominator r.numerator r.denominator at.numerator at.denominator quotient.0
 
     at_lower : (a r d : ℤ) → a *ℤ r *ℤ d ≡ pos 1 *ℤ d *ℤ (a *ℤ r)
@@ -323,9 +356,13 @@ bound-found relation a r at some above e x = (quotient.1, by (int_lt (pos 0) a) 
         turned (inr (inl none)) = absurd (apart none)
         turned (inr (inr down)) = above_neg z down
 
-    by : (t : Bool) → int_lt (pos 0) a ≡ t → (is_enough relation (inside_at t at x) ≡ true) ↔ IsEnough relation (a *ℤ x.numerator *ℤ r.denominator +ℤ r.numerator *ℤ x.denominator)
-    by true h = multiple relation _ _ at.denominator (a *ℤ r.denominator) (above-* a r.denominator (rising a h) above) quotient.1 (depths ∙ at_lower a r.denominator _)
-    by false h = multiple relation _ _ at.denominator (neg_ℤ a *ℤ r.denominator) (above-* (neg_ℤ a) r.denominator (falling a h some) above) quotient.1 (depths ∙ at_upper a r.denominator _)
+    by : (t : Bool) → int_lt (pos 0) a ≡ t → (is_enough relation (inside_at t at x) ≡ true) ↔ IsEnough relation
+        (a *ℤ x.numerator *ℤ r.denominator +ℤ r.numerator *ℤ x.denominator)
+    by true h =
+        multiple relation _ _ at.denominator (a *ℤ r.denominator) (above-* a r.denominator (rising a h) above) quotient.1 (depths ∙ at_lower a r.denominator _)
+    by false h =
+        multiple relation _ _ at.denominator (neg_ℤ a *ℤ r.denominator) (above-* (neg_ℤ a) r.denominator (falling a h some) above) quotient.1
+        (depths ∙ at_upper a r.denominator _)
 
 -- ---- the bounds of all lines
 
@@ -333,7 +370,8 @@ was-ok : {A E : Type 0} (r : Result A E) (a : A) → result_ok r ≡ Some a → 
 was-ok (Ok b) a e = ap Ok (cc)
 was-ok (Err e) a h = absurd (cc)
 
-was-place : {A : Type 0} (i : ℕ) (o : Option A) (next : A → Result FoundBounds ℕ) (s : FoundBounds) → (ok_or o i >>= next) ≡ Ok s → (a : A) × (o ≡ Some a) × (next a ≡ Ok s)
+was-place : {A : Type 0} (i : ℕ) (o : Option A) (next : A → Result FoundBounds ℕ) (s : FoundBounds) → (ok_or o i >>= next) ≡ Ok s
+    → (a : A) × (o ≡ Some a) × (next a ≡ Ok s)
 was-place i None next s e = absurd (cc)
 was-place i (Some a) next s e = (a, refl, e)
 
@@ -341,10 +379,16 @@ module _ (row : List Value) (f : ℕ) where
   told-bounds : (line : LineParts) → is_bounding line row f ≡ true → BoundsField line row f
   told-bounds line e =
       let (inside, some) = both_true _ _ e in
-      record { codes = (is_inside-Decides line.sets (codes_in line.shape row)).0 inside; stands = λ none. absurd (cc (sym some ∙ ap not ((Decides-int_eq (factor line f) (pos 0)).1 none))) }
+      record {
+        codes = (is_inside-Decides line.sets (codes_in line.shape row)).0 inside;
+        stands = λ none. absurd
+            (cc (sym some ∙ ap not ((Decides-int_eq (factor line f) (pos 0)).1 none)));
+      }
 
   bounds-told : (line : LineParts) → BoundsField line row f → is_bounding line row f ≡ true
-  bounds-told line is = both (are_codes_in line.sets (codes_in line.shape row)) _ ((is_inside-Decides line.sets (codes_in line.shape row)).1 is.codes) (by (int_eq (factor line f) (pos 0)) refl)
+  bounds-told line is =
+      both (are_codes_in line.sets (codes_in line.shape row)) _ ((is_inside-Decides line.sets (codes_in line.shape row)).1 is.codes)
+      (by (int_eq (factor line f) (pos 0)) refl)
     where
       both : (a b : Bool) → a ≡ true → b ≡ true → (a && b) ≡ true
       both true b e h = h
@@ -359,15 +403,19 @@ module _ (row : List Value) (f : ℕ) where
     pub rests : RestsFit lines row f
     pub within : (x : Ratio) → pos 0 <ℤ x.denominator → (within_found found x ≡ true) ↔ ((within_found ends x ≡ true) × AreWithinBounds lines row f x)
 
-  gathered : (i : ℕ) (lines : List LineParts) (ends found : FoundBounds) → AreProper ends → bounds_from i lines row f ends ≡ Ok found → IsGathered lines ends found
+  gathered : (i : ℕ) (lines : List LineParts) (ends found : FoundBounds) → AreProper ends → bounds_from i lines row f ends ≡ Ok found
+      → IsGathered lines ends found
   gathered i [] ends found proper e =
       let same : ends ≡ found = cc in
-      subst (λ (s : FoundBounds). IsGathered [] ends s) same (record { proper = proper; rests = λ l none. absurd none; within = λ x above. (λ h. (h, λ l r none. absurd none), λ h. h.0) })
+      subst (λ (s : FoundBounds). IsGathered [] ends s) same
+      (record { proper = proper; rests = λ l none. absurd none; within = λ x above. (λ h. (h, λ l r none. absurd none), λ h. h.0) })
   gathered i (line ∷ lines) ends found proper e = by (is_bounding line row f) refl e (λ ends' proper' made. gathered (suc i) lines ends' found proper' made)
     where
       by : (b : Bool) → is_bounding line row f ≡ b
-          → (if b then (ok_or (bound_at line row f) i >>= (λ at. bounds_from (suc i) lines row f (with_bound ends line f at i))) else bounds_from (suc i) lines row f ends) ≡ Ok found
-          → ((ends' : FoundBounds) → AreProper ends' → bounds_from (suc i) lines row f ends' ≡ Ok found → IsGathered lines ends' found) → IsGathered (line ∷ lines) ends found
+          → (if b then (ok_or (bound_at line row f) i >>= (λ at. bounds_from (suc i) lines row f (with_bound ends line f at i))) else bounds_from (suc i)
+          lines row f ends) ≡ Ok found
+          → ((ends' : FoundBounds) → AreProper ends' → bounds_from (suc i) lines row f ends' ≡ Ok found → IsGathered lines ends' found)
+          → IsGathered (line ∷ lines) ends found
       by false out made rest =
           let later = rest ends proper made in
           record {
@@ -383,7 +431,8 @@ module _ (row : List Value) (f : ℕ) where
           none l (inl same) bounds next = absurd (cc (sym out ∙ ap (λ (k : LineParts). is_bounding k row f) (sym same) ∙ bounds-told l bounds))
           none l (inr h) bounds next = next h
 
-          at : (l : LineParts) → IsIn l (line ∷ lines) → BoundsField l row f → (IsIn l lines → (r : Ratio) × (rest_of l row f ≡ Ok r)) → (r : Ratio) × (rest_of l row f ≡ Ok r)
+          at : (l : LineParts) → IsIn l (line ∷ lines) → BoundsField l row f → (IsIn l lines → (r : Ratio) × (rest_of l row f ≡ Ok r))
+              → (r : Ratio) × (rest_of l row f ≡ Ok r)
           at l there bounds next = none l there bounds next
       by true is made rest =
           let (bound, found_is, more) = was-place i (bound_at line row f) (λ at. bounds_from (suc i) lines row f (with_bound ends line f at i)) found made in
@@ -414,12 +463,14 @@ module _ (row : List Value) (f : ℕ) where
           joined true b e h = h
           joined false b e h = absurd (cc)
 
-          at : (l : LineParts) (r : Ratio) → rest_of line row f ≡ Ok r → IsIn l (line ∷ lines) → (IsIn l lines → (r : Ratio) × (rest_of l row f ≡ Ok r)) → (r : Ratio) × (rest_of l row f ≡ Ok r)
+          at : (l : LineParts) (r : Ratio) → rest_of line row f ≡ Ok r → IsIn l (line ∷ lines) → (IsIn l lines → (r : Ratio) × (rest_of l row f ≡ Ok r))
+              → (r : Ratio) × (rest_of l row f ≡ Ok r)
           at l r r_is (inl same) next = (r, ap (λ (k : LineParts). rest_of k row f) same ∙ r_is)
           at l r r_is (inr h) next = next h
 
           one : (x : Ratio) (l : LineParts) (s : Ratio) → IsIn l (line ∷ lines) → rest_of l row f ≡ Ok s → (r : Ratio) → rest_of line row f ≡ Ok r
-              → IsEnough line.relation (factor line f *ℤ x.numerator *ℤ r.denominator +ℤ r.numerator *ℤ x.denominator) → (IsIn l lines → IsWithinBound l f s x) → IsWithinBound l f s x
+              → IsEnough line.relation (factor line f *ℤ x.numerator *ℤ r.denominator +ℤ r.numerator *ℤ x.denominator)
+              → (IsIn l lines → IsWithinBound l f s x) → IsWithinBound l f s x
           one x l s (inl same) s_is r r_is here next =
               let same_rest : r ≡ s = same_ok (rest_of line row f) r s r_is (ap (λ (k : LineParts). rest_of k row f) (sym same) ∙ s_is) in
               subst (λ (q : Ratio). IsWithinBound l f q x) same_rest (subst (λ (k : LineParts). IsWithinBound k f r x) (sym same) here)
@@ -431,7 +482,8 @@ module _ (row : List Value) (f : ℕ) where
 -- ---- the nearest number
 
 module _ (side : ℤ) (target : Ratio) where
-  step-same : (at : Ratio) (other : Option Found) (h : IsProper other) (r : Ratio) → pos 0 <ℤ at.denominator → step_in side at other ≡ Some r → IsSame r (further_in side at (any_from other h))
+  step-same : (at : Ratio) (other : Option Found) (h : IsProper other) (r : Ratio) → pos 0 <ℤ at.denominator → step_in side at other ≡ Some r
+      → IsSame r (further_in side at (any_from other h))
   step-same at None h r above e =
       let sum = added-value at (whole side) r above (omega (arith, ints)) e in
       opened r.numerator at.denominator ∙ sum.0 ∙ closed at.numerator at.denominator side r.denominator
@@ -452,12 +504,14 @@ module _ (side : ℤ) (target : Ratio) where
   placed_led i None r e = absurd (cc)
   placed_led i (Some a) r e = ap Some (cc)
 
-  out-same : (o other : Option Found) (h : IsProper o) (g : IsProper other) (r : Ratio) (next : Result Ratio ℕ) (near : Ratio) → unless_out side o other target next ≡ Ok r → (next ≡ Ok r → IsSame r near)
+  out-same : (o other : Option Found) (h : IsProper o) (g : IsProper other) (r : Ratio) (next : Result Ratio ℕ) (near : Ratio)
+      → unless_out side o other target next ≡ Ok r → (next ≡ Ok r → IsSame r near)
       → IsSame r (kept_past side (any_from o h) (any_from other g) target near)
   out-same None other h g r next near e later = later e
   out-same (Some b) other h g r next near e later = by (is_enough (bound_relation b.strict) (inside_by side b target)) b.strict e
     where
-      by : (a s : Bool) → (if a then next else if s then (ok_or (step_in side b.at other) b.line) else Ok b.at) ≡ Ok r → IsSame r (if a then near else if s then further_in side b.at (any_from other g) else b.at)
+      by : (a s : Bool) → (if a then next else if s then (ok_or (step_in side b.at other) b.line) else Ok b.at) ≡ Ok r
+          → IsSame r (if a then near else if s then further_in side b.at (any_from other g) else b.at)
       by true s h = later h
       by false true e = step-same b.at other g r h (placed_led b.line (step_in side b.at other) r e)
       by false false e = ap (λ (x : Ratio). x.numerator *ℤ b.at.denominator) same ∙ ap (λ (x : Ratio). b.at.numerator *ℤ x.denominator) (sym same)
@@ -466,10 +520,12 @@ module _ (side : ℤ) (target : Ratio) where
           same = cc
 
 -- the walk's number is the nearest one within the bounds of the lines
-pub walked-number : (lines : List LineParts) (row : List Value) (f : ℕ) (target r : Ratio) → number_result lines row f target ≡ Ok r → RestsFit lines row f × IsGivenNumber (AreWithinBounds lines row f) target r
+pub walked-number : (lines : List LineParts) (row : List Value) (f : ℕ) (target r : Ratio) → number_result lines row f target ≡ Ok r
+    → RestsFit lines row f × IsGivenNumber (AreWithinBounds lines row f) target r
 walked-number lines row f target r e = by (bounds_from 0 lines row f no_bounds) refl e
   where
-    by : (o : Result FoundBounds ℕ) → bounds_from 0 lines row f no_bounds ≡ o → (o >>= (λ ends. nearest_found ends target)) ≡ Ok r → RestsFit lines row f × IsGivenNumber (AreWithinBounds lines row f) target r
+    by : (o : Result FoundBounds ℕ) → bounds_from 0 lines row f no_bounds ≡ o → (o >>= (λ ends. nearest_found ends target)) ≡ Ok r
+        → RestsFit lines row f × IsGivenNumber (AreWithinBounds lines row f) target r
     by (Err place) is h = absurd (cc)
     by (Ok ends) is h =
         let all = gathered row f 0 lines no_bounds ends (tt, tt) is in (
@@ -479,7 +535,8 @@ walked-number lines row f target r e = by (bounds_from 0 lines row f no_bounds) 
             exact = λ y above.
                 let same = between-within ends all.proper y in
                 (λ within. same ∙ (all.within y above).1 (refl, within), λ inside. ((all.within y above).0 (sym same ∙ inside)).1);
-            is_nearest = out-same (pos 1) target ends.lower ends.upper all.proper.0 all.proper.1 r (unless_out (negsuc 0) ends.upper ends.lower target (Ok target)) _ h
+            is_nearest = out-same (pos 1) target ends.lower ends.upper all.proper.0 all.proper.1 r
+                (unless_out (negsuc 0) ends.upper ends.lower target (Ok target)) _ h
                 (λ more. out-same (negsuc 0) target ends.upper ends.lower all.proper.1 all.proper.0 r (Ok target) target more (λ last. own target r (cc)));
           },
         )

@@ -1,4 +1,5 @@
-use Rattle.std.proofs.Common.{◌≡◌, ◌≢◌, ◌<◌, ◌≤◌, ◌+◌, ◌==◌, ◌&&◌, ◌||◌, ℕ, zero, suc, nat_lt, Bool, true, false, List, [], ◌∷◌, get_or, length, refl, sym, ap, ◌∙◌, arith}
+use Rattle.std.proofs.Common.{◌≡◌, ◌≢◌, ◌<◌, ◌≤◌, ◌+◌, ◌==◌, ◌&&◌, ◌||◌, ℕ, zero, suc, nat_lt, Bool, true, false, List, [], ◌∷◌, get_or, length, refl}
+use Rattle.std.proofs.Common.{sym, ap, ◌∙◌, arith}
 use Rattle.std.proofs.lemmas.Bool.Decides.{Decides-eqb, Decides-ltb}
 use Rattle.std.proofs.lemmas.List.{get_or-map, get_or_default, length-map, same_lists}
 use Rattle.edit_model.specs.Corrections.{path_order}
@@ -29,7 +30,8 @@ module _ (c : SearchCase) where
 abbrev bare : List Field → SearchCase
 bare fields = record { survey = survey_of fields []; edits = []; row = [] }
 
-distinct-at : (fields : List Field) (i k : ℕ) → i < length (path_order fields) → k < length (path_order fields) → get_or (path_order fields) i 0 ≡ get_or (path_order fields) k 0 → i ≡ k
+distinct-at : (fields : List Field) (i k : ℕ) → i < length (path_order fields) → k < length (path_order fields)
+    → get_or (path_order fields) i 0 ≡ get_or (path_order fields) k 0 → i ≡ k
 distinct-at fields i k i_below k_below same = sym (place-own (bare fields) i i_below) ∙ ap (λ f. path_place fields f) same ∙ place-own (bare fields) k k_below
 
 -- ---- one letter more
@@ -63,7 +65,8 @@ module _ (fields : List Field) (path : List Bool) (set i : ℕ) (here : i < leng
   abbrev at : ℕ → ℕ
   at k = get_or (path_order fields) k 0
 
-  pub read-changed : (f next : ℕ) → f ≡ get_or (path_order fields) i 0 → get_or path i false ≡ true → next ≡ with_number set f → IsReadTo fields path (i + 1) next
+  pub read-changed : (f next : ℕ) → f ≡ get_or (path_order fields) i 0 → get_or path i false ≡ true → next ≡ with_number set f
+      → IsReadTo fields path (i + 1) next
   read-changed f next f_is letter next_is k below = ap (λ s. has_number s (at k)) next_is ∙ has-with set f (at k) ∙ by (f == at k) refl
     where
       by : (b : Bool) → (f == at k) ≡ b → (b || has_number set (at k)) ≡ (nat_lt k (i + 1) && get_or path k false)
@@ -87,11 +90,14 @@ module _ (fields : List Field) (path : List Bool) (set i : ℕ) (here : i < leng
       by false e = ap (λ b. b && get_or path k false) (below-next k i (λ same. cc (sym e ∙ (Decides-eqb k i).1 same)))
 
 -- at the end it is the set that the path changes
-pub read-all : (fields : List Field) (path : List Bool) (set i : ℕ) → length path ≡ length fields → length fields ≤ i → IsReadTo fields path i set → path_of fields set ≡ path
+pub read-all : (fields : List Field) (path : List Bool) (set i : ℕ) → length path ≡ length fields → length fields ≤ i → IsReadTo fields path i set
+    → path_of fields set ≡ path
 read-all fields path set i whole past read =
-    same_lists (path_of fields set) path (length-map (path_order fields) (has_number set) ∙ order-length fields ∙ sym whole) (λ k d below. letter k d (omega (arith, below, length-map (path_order fields) (has_number set))))
+    same_lists (path_of fields set) path (length-map (path_order fields) (has_number set) ∙ order-length fields ∙ sym whole)
+    (λ k d below. letter k d (omega (arith, below, length-map (path_order fields) (has_number set))))
   where
     letter : (k : ℕ) (d : Bool) → k < length (path_order fields) → get_or (path_of fields set) k d ≡ get_or path k d
     letter k d below =
-        get_or-map (has_number set) (path_order fields) k 0 d below ∙ read k below ∙ ap (λ b. b && get_or path k false) ((Decides-ltb k i).1 (omega (arith, below, past, order-length fields)))
+        get_or-map (has_number set) (path_order fields) k 0 d below ∙ read k below
+        ∙ ap (λ b. b && get_or path k false) ((Decides-ltb k i).1 (omega (arith, below, past, order-length fields)))
         ∙ get_or_default path k false d (omega (arith, below, whole, order-length fields))

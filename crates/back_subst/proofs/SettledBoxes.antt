@@ -88,8 +88,10 @@ module _ (shape : List Domain) (row : List Value) (left : List ℕ) (g : ℕ) wh
   abbrev pub HasCodesOf : List ℕ → Point → Type 0
   HasCodesOf fields q = (i : ℕ) → has_field fields i ≡ true → (i == g) ≡ false → has_field left i ≡ false → q.code i ≡ code_in (value_of row i)
 
-  at_one : (boxes : List (List ℕ)) (i : ℕ) (q : Point) (code : ℕ) → HaveSets shape boxes → has_field (code_fields shape) i ≡ true → HasCodes 0 shape q → code < size_of shape i
-      → (has_field left i ≡ false → q.code i ≡ code_in (value_of row i)) → Avoids shape boxes q → Avoids shape (settled_at shape row left i boxes) (with_code_at q i code)
+  at_one : (boxes : List (List ℕ)) (i : ℕ) (q : Point) (code : ℕ) → HaveSets shape boxes → has_field (code_fields shape) i ≡ true → HasCodes 0 shape q
+      → code < size_of shape i
+      → (has_field left i ≡ false → q.code i ≡ code_in (value_of row i)) → Avoids shape boxes q
+      → Avoids shape (settled_at shape row left i boxes) (with_code_at q i code)
   at_one boxes i q code sets there held below agrees avoids = by (has_field left i) agrees
     where
       q1 : Point
@@ -98,8 +100,11 @@ module _ (shape : List Domain) (row : List Value) (left : List ℕ) (g : ℕ) wh
       held1 : HasCodes 0 shape q1
       held1 = HasCodes-with shape q i code below held
 
-      by : (b : Bool) → (b ≡ false → q.code i ≡ code_in (value_of row i)) → Avoids shape (if b then covered shape boxes i else fixed shape boxes i (code_in (value_of row i))) q1
-      by true h = covered-holds shape boxes i q1 sets (takes q i there held) held1 (q.code i) (code-below shape q i there held) (avoid-same boxes q (with_code_at q1 i (q.code i)) (back q i code) avoids)
+      by : (b : Bool) → (b ≡ false → q.code i ≡ code_in (value_of row i))
+          → Avoids shape (if b then covered shape boxes i else fixed shape boxes i (code_in (value_of row i))) q1
+      by true h =
+          covered-holds shape boxes i q1 sets (takes q i there held) held1 (q.code i) (code-below shape q i there held)
+          (avoid-same boxes q (with_code_at q1 i (q.code i)) (back q i code) avoids)
       by false h =
           fixed-avoids shape boxes i q1 sets (takes q i there held) held1 (code_in (value_of row i))
           ∙ ap (λ c. avoid boxes (codes_at shape (with_code_at q1 i c))) (sym (h refl))
@@ -107,13 +112,17 @@ module _ (shape : List Domain) (row : List Value) (left : List ℕ) (g : ℕ) wh
 
   -- ---- from a point that avoids the boxes
 
-  pub settled-holds : (fields : List ℕ) (boxes : List (List ℕ)) (q r : Point) → HaveSets shape boxes → AreCategorical fields → AreDistinct fields → HasCodes 0 shape q → HasCodes 0 shape r → HasCodesOf fields q
-      → ((j : ℕ) → has_field (code_fields shape) j ≡ true → is_settled fields j ≡ false → r.code j ≡ q.code j) → Avoids shape boxes q → Avoids shape (settled_but shape row left g fields boxes) r
+  pub settled-holds : (fields : List ℕ) (boxes : List (List ℕ)) (q r : Point) → HaveSets shape boxes → AreCategorical fields → AreDistinct fields
+      → HasCodes 0 shape q → HasCodes 0 shape r → HasCodesOf fields q
+      → ((j : ℕ) → has_field (code_fields shape) j ≡ true → is_settled fields j ≡ false → r.code j ≡ q.code j) → Avoids shape boxes q
+      → Avoids shape (settled_but shape row left g fields boxes) r
   settled-holds [] boxes q r sets categorical distinct q_held r_held agrees same avoids = avoid-same boxes q r (λ j there. same j there refl) avoids
   settled-holds (i ∷ fields) boxes q r sets categorical distinct q_held r_held agrees same avoids =
       by (i == g) refl
-      (λ e. settled-holds fields boxes q r sets (tail-categorical i fields categorical) distinct.1 q_held r_held (λ k there. agrees k (or_true (i == k) (has_field fields k) there)) (λ j there settled. same j there (own-skipped i fields j e ∙ settled)) avoids)
-      (λ e. settled-holds fields (settled_at shape row left i boxes) (with_code_at q i (r.code i)) r (next-sets boxes i sets) (tail-categorical i fields categorical) distinct.1
+      (λ e. settled-holds fields boxes q r sets (tail-categorical i fields categorical) distinct.1 q_held r_held
+      (λ k there. agrees k (or_true (i == k) (has_field fields k) there)) (λ j there settled. same j there (own-skipped i fields j e ∙ settled)) avoids)
+      (λ e. settled-holds fields (settled_at shape row left i boxes) (with_code_at q i (r.code i)) r (next-sets boxes i sets)
+      (tail-categorical i fields categorical) distinct.1
       (HasCodes-with shape q i (r.code i) (code-below shape r i (head-categorical i fields categorical) r_held) q_held) r_held
       (λ k there apart kept. code-other q i (r.code i) k (other k there) ∙ agrees k (or_true (i == k) (has_field fields k) there) apart kept)
       (λ j there settled. same_now j there settled)
@@ -138,7 +147,8 @@ module _ (shape : List Domain) (row : List Value) (left : List ℕ) (g : ℕ) wh
           at true e = ap (λ k. r.code k) ((Decides-eqb j i).0 e)
           at false e = same j there (ap (λ b. (b || has_field fields j) && not (j == g)) (swapped i j ∙ e) ∙ settled)
 
-      by : (b : Bool) → (i == g) ≡ b → ((i == g) ≡ true → Avoids shape (settled_but shape row left g fields boxes) r) → ((i == g) ≡ false → Avoids shape (settled_but shape row left g fields (settled_at shape row left i boxes)) r)
+      by : (b : Bool) → (i == g) ≡ b → ((i == g) ≡ true → Avoids shape (settled_but shape row left g fields boxes) r)
+          → ((i == g) ≡ false → Avoids shape (settled_but shape row left g fields (settled_at shape row left i boxes)) r)
           → Avoids shape (settled_but shape row left g fields (if b then boxes else settled_at shape row left i boxes)) r
       by true e own rest = own e
       by false e own rest = rest e
@@ -154,15 +164,18 @@ module _ (shape : List Domain) (row : List Value) (left : List ℕ) (g : ℕ) wh
     pub agrees : HasCodesOf fields q
     pub avoids : Avoids shape boxes q
 
-  pub settled-lifts : (fields : List ℕ) (boxes : List (List ℕ)) (r : Point) → HaveSets shape boxes → AreCategorical fields → AreDistinct fields → HasCodes 0 shape r
+  pub settled-lifts : (fields : List ℕ) (boxes : List (List ℕ)) (r : Point) → HaveSets shape boxes → AreCategorical fields → AreDistinct fields
+      → HasCodes 0 shape r
       → ((i : ℕ) → has_field fields i ≡ true → (i == g) ≡ false → has_field left i ≡ false → code_in (value_of row i) < size_of shape i)
       → Avoids shape (settled_but shape row left g fields boxes) r → (q : Point) × IsLifted fields boxes r q
   settled-lifts [] boxes r sets categorical distinct held below avoids =
       (r, record { held = held; numbers = λ j. refl; over = refl; others = λ j _. refl; agrees = λ i there. absurd (cc); avoids = avoids })
   settled-lifts (i ∷ fields) boxes r sets categorical distinct held below avoids =
       by (i == g) refl
-      (λ h. settled-lifts fields boxes r sets (tail-categorical i fields categorical) distinct.1 held (λ k there. below k (or_true (i == k) (has_field fields k) there)) h)
-      (λ h. settled-lifts fields (settled_at shape row left i boxes) r (next-sets boxes i sets) (tail-categorical i fields categorical) distinct.1 held (λ k there. below k (or_true (i == k) (has_field fields k) there)) h) avoids
+      (λ h. settled-lifts fields boxes r sets (tail-categorical i fields categorical) distinct.1 held
+      (λ k there. below k (or_true (i == k) (has_field fields k) there)) h)
+      (λ h. settled-lifts fields (settled_at shape row left i boxes) r (next-sets boxes i sets) (tail-categorical i fields categorical) distinct.1 held
+      (λ k there. below k (or_true (i == k) (has_field fields k) there)) h) avoids
     where
       or_true : (a b : Bool) → b ≡ true → (a || b) ≡ true
       or_true true b h = refl
@@ -179,12 +192,14 @@ module _ (shape : List Domain) (row : List Value) (left : List ℕ) (g : ℕ) wh
         avoids = is.avoids;
       }
         where
-          at : (k : ℕ) (b : Bool) → (i == k) ≡ b → (b || has_field fields k) ≡ true → (k == g) ≡ false → has_field left k ≡ false → q.code k ≡ code_in (value_of row k)
+          at : (k : ℕ) (b : Bool) → (i == k) ≡ b → (b || has_field fields k) ≡ true → (k == g) ≡ false → has_field left k ≡ false
+              → q.code k ≡ code_in (value_of row k)
           at k true h there apart kept = absurd (cc (sym apart ∙ ap (λ m. m == g) (sym ((Decides-eqb i k).0 h)) ∙ e))
           at k false h there apart kept = is.agrees k there apart kept
 
       -- one more code
-      more : (i == g) ≡ false → (q : Point) → IsLifted fields (settled_at shape row left i boxes) r q → (code : ℕ) → code < size_of shape i → (has_field left i ≡ false → code ≡ code_in (value_of row i)) → Avoids shape boxes (with_code_at q i code)
+      more : (i == g) ≡ false → (q : Point) → IsLifted fields (settled_at shape row left i boxes) r q → (code : ℕ) → code < size_of shape i
+          → (has_field left i ≡ false → code ≡ code_in (value_of row i)) → Avoids shape boxes (with_code_at q i code)
           → IsLifted (i ∷ fields) boxes r (with_code_at q i code)
       more e q is code fits own avoided = record {
         held = HasCodes-with shape q i code fits is.held;
@@ -201,7 +216,8 @@ module _ (shape : List Domain) (row : List Value) (left : List ℕ) (g : ℕ) wh
               absurd (cc (sym settled ∙ ap (λ b. (b || has_field fields j) && not (j == g)) (swapped i j ∙ h) ∙ ap (λ k. not (k == g)) same ∙ ap not e))
           at j false h settled = is.others j (sym (ap (λ b. (b || has_field fields j) && not (j == g)) (swapped i j ∙ h)) ∙ settled)
 
-          here : (k : ℕ) (b : Bool) → (k == i) ≡ b → has_field (i ∷ fields) k ≡ true → (k == g) ≡ false → has_field left k ≡ false → (if b then code else q.code k) ≡ code_in (value_of row k)
+          here : (k : ℕ) (b : Bool) → (k == i) ≡ b → has_field (i ∷ fields) k ≡ true → (k == g) ≡ false → has_field left k ≡ false
+              → (if b then code else q.code k) ≡ code_in (value_of row k)
           here k true h there apart kept =
               let same : k ≡ i = (Decides-eqb k i).0 h in
               own (ap (λ m. has_field left m) (sym same) ∙ kept) ∙ ap (λ m. code_in (value_of row m)) (sym same)
@@ -213,9 +229,11 @@ module _ (shape : List Domain) (row : List Value) (left : List ℕ) (g : ℕ) wh
           there : has_field (code_fields shape) i ≡ true
           there = head-categorical i fields categorical
 
-          at : (b : Bool) → has_field left i ≡ b → Avoids shape (if b then covered shape boxes i else fixed shape boxes i (code_in (value_of row i))) q → (q' : Point) × IsLifted (i ∷ fields) boxes r q'
+          at : (b : Bool) → has_field left i ≡ b → Avoids shape (if b then covered shape boxes i else fixed shape boxes i (code_in (value_of row i))) q
+              → (q' : Point) × IsLifted (i ∷ fields) boxes r q'
           at true h avoided =
-              let (code, fits, free) = covered-lifts shape boxes i q sets (takes q i there is.held) is.held avoided in (with_code_at q i code, more e q is code fits (λ kept. absurd (cc (sym h ∙ kept))) free)
+              let (code, fits, free) = covered-lifts shape boxes i q sets (takes q i there is.held) is.held
+              avoided in (with_code_at q i code, more e q is code fits (λ kept. absurd (cc (sym h ∙ kept))) free)
           at false h avoided = (
             with_code_at q i (code_in (value_of row i)),
             more e q is (code_in (value_of row i)) (below i (ap (λ b. b || has_field fields i) ((Decides-eqb i i).1 refl)) e h) (λ kept. refl)
@@ -223,7 +241,9 @@ module _ (shape : List Domain) (row : List Value) (left : List ℕ) (g : ℕ) wh
           )
 
       by : (b : Bool) → (i == g) ≡ b → (Avoids shape (settled_but shape row left g fields boxes) r → (q : Point) × IsLifted fields boxes r q)
-          → (Avoids shape (settled_but shape row left g fields (settled_at shape row left i boxes)) r → (q : Point) × IsLifted fields (settled_at shape row left i boxes) r q)
-          → Avoids shape (settled_but shape row left g fields (if b then boxes else settled_at shape row left i boxes)) r → (q : Point) × IsLifted (i ∷ fields) boxes r q
+          → (Avoids shape (settled_but shape row left g fields (settled_at shape row left i boxes)) r
+          → (q : Point) × IsLifted fields (settled_at shape row left i boxes) r q)
+          → Avoids shape (settled_but shape row left g fields (if b then boxes else settled_at shape row left i boxes)) r
+          → (q : Point) × IsLifted (i ∷ fields) boxes r q
       by true e own rest h = let (q, is) = own h in (q, passed e q is)
       by false e own rest h = let (q, is) = rest h in settle e q is

@@ -1,4 +1,5 @@
-use Rattle.std.proofs.Common.{◌≡◌, ℕ, zero, suc, ◌+◌, ◌<◌, ◌==◌, ◌||◌, ◌++◌, Bool, true, false, if◌then◌else◌, List, [], ◌∷◌, length, reverse, refl, sym, ap, ◌∙◌, subst, arith}
+use Rattle.std.proofs.Common.{◌≡◌, ℕ, zero, suc, ◌+◌, ◌<◌, ◌==◌, ◌||◌, ◌++◌, Bool, true, false, if◌then◌else◌, List, [], ◌∷◌, length, reverse, refl}
+use Rattle.std.proofs.Common.{sym, ap, ◌∙◌, subst, arith}
 use Rattle.std.specs.List.{filter}
 use Rattle.std.proofs.lemmas.Bool.Decides.{Decides-eqb}
 use Rattle.std.proofs.lemmas.List.{length-map, reverse-append}
@@ -49,37 +50,52 @@ distinct-joined (x ∷ xs) ys first second apart = (
 distinct-reversed : (xs : List ℕ) → AreDistinct xs → AreDistinct (reverse xs)
 distinct-reversed [] distinct = tt
 distinct-reversed (x ∷ xs) distinct =
-    subst (λ fs. AreDistinct fs) (sym (reverse-append (x ∷ []) xs)) (distinct-joined (reverse xs) (x ∷ []) (distinct-reversed xs distinct.1) (refl, tt) (λ f there. ap (λ b. b || false) (other f (sym (has-reverse f xs) ∙ there))))
+    subst (λ fs. AreDistinct fs) (sym (reverse-append (x ∷ []) xs))
+    (distinct-joined (reverse xs) (x ∷ []) (distinct-reversed xs distinct.1) (refl, tt)
+    (λ f there. ap (λ b. b || false) (other f (sym (has-reverse f xs) ∙ there))))
   where
     other : (f : ℕ) → has_field xs f ≡ true → (x == f) ≡ false
     other f there = false_unless (x == f) (λ e. absurd (cc (sym distinct.0 ∙ ap (λ n. has_field xs n) ((Decides-eqb x f).0 e) ∙ there)))
 
 -- ---- each field is numerical or categorical
 
-pub field-either : (i f : ℕ) (shape : List Domain) → (f < length shape) → (has_field (codes_from i shape) (i + f) || has_field (numbers_from i shape) (i + f)) ≡ true
+pub field-either : (i f : ℕ) (shape : List Domain) → (f < length shape)
+    → (has_field (codes_from i shape) (i + f) || has_field (numbers_from i shape) (i + f)) ≡ true
 field-either i f [] below = absurd (omega arith)
-field-either i zero (Numerical ∷ shape) below = ap (λ b. has_field (codes_from (suc i) shape) (i + 0) || (b || has_field (numbers_from (suc i) shape) (i + 0))) ((Decides-eqb i (i + 0)).1 (omega arith)) ∙ or_true (has_field (codes_from (suc i) shape) (i + 0))
-field-either i zero (Categorical k ∷ shape) below = ap (λ b. (b || has_field (codes_from (suc i) shape) (i + 0)) || has_field (numbers_from (suc i) shape) (i + 0)) ((Decides-eqb i (i + 0)).1 (omega arith))
-field-either i (suc f) (Numerical ∷ shape) below = later (has_field (codes_from (suc i) shape) (i + suc f)) (i == (i + suc f)) (has_field (numbers_from (suc i) shape) (i + suc f)) (moved i f shape (field-either (suc i) f shape (omega arith)))
+field-either i zero (Numerical ∷ shape) below =
+    ap (λ b. has_field (codes_from (suc i) shape) (i + 0) || (b || has_field (numbers_from (suc i) shape) (i + 0)))
+    ((Decides-eqb i (i + 0)).1 (omega arith)) ∙ or_true (has_field (codes_from (suc i) shape) (i + 0))
+field-either i zero (Categorical k ∷ shape) below =
+    ap (λ b. (b || has_field (codes_from (suc i) shape) (i + 0)) || has_field (numbers_from (suc i) shape) (i + 0)) ((Decides-eqb i (i + 0)).1 (omega arith))
+field-either i (suc f) (Numerical ∷ shape) below =
+    later (has_field (codes_from (suc i) shape) (i + suc f)) (i == (i + suc f)) (has_field (numbers_from (suc i) shape) (i + suc f))
+    (moved i f shape (field-either (suc i) f shape (omega arith)))
   where
     later : (a b c : Bool) → (a || c) ≡ true → (a || (b || c)) ≡ true
     later true b c h = refl
     later false true c h = refl
     later false false c h = h
 
-    moved : (i f : ℕ) (shape : List Domain) → (has_field (codes_from (suc i) shape) (suc i + f) || has_field (numbers_from (suc i) shape) (suc i + f)) ≡ true → (has_field (codes_from (suc i) shape) (i + suc f) || has_field (numbers_from (suc i) shape) (i + suc f)) ≡ true
-    moved i f shape h = let same : i + suc f ≡ suc i + f = omega arith in ap (λ n. has_field (codes_from (suc i) shape) n || has_field (numbers_from (suc i) shape) n) same ∙ h
-field-either i (suc f) (Categorical k ∷ shape) below = later (i == (i + suc f)) (has_field (codes_from (suc i) shape) (i + suc f)) (has_field (numbers_from (suc i) shape) (i + suc f)) (moved i f shape (field-either (suc i) f shape (omega arith)))
+    moved : (i f : ℕ) (shape : List Domain) → (has_field (codes_from (suc i) shape) (suc i + f) || has_field (numbers_from (suc i) shape) (suc i + f))
+        ≡ true → (has_field (codes_from (suc i) shape) (i + suc f) || has_field (numbers_from (suc i) shape) (i + suc f)) ≡ true
+    moved i f shape h = let same : i + suc f ≡ suc i + f = omega
+        arith in ap (λ n. has_field (codes_from (suc i) shape) n || has_field (numbers_from (suc i) shape) n) same ∙ h
+field-either i (suc f) (Categorical k ∷ shape) below =
+    later (i == (i + suc f)) (has_field (codes_from (suc i) shape) (i + suc f)) (has_field (numbers_from (suc i) shape) (i + suc f))
+    (moved i f shape (field-either (suc i) f shape (omega arith)))
   where
     later : (a b c : Bool) → (b || c) ≡ true → ((a || b) || c) ≡ true
     later true b c h = refl
     later false b c h = h
 
-    moved : (i f : ℕ) (shape : List Domain) → (has_field (codes_from (suc i) shape) (suc i + f) || has_field (numbers_from (suc i) shape) (suc i + f)) ≡ true → (has_field (codes_from (suc i) shape) (i + suc f) || has_field (numbers_from (suc i) shape) (i + suc f)) ≡ true
-    moved i f shape h = let same : i + suc f ≡ suc i + f = omega arith in ap (λ n. has_field (codes_from (suc i) shape) n || has_field (numbers_from (suc i) shape) n) same ∙ h
+    moved : (i f : ℕ) (shape : List Domain) → (has_field (codes_from (suc i) shape) (suc i + f) || has_field (numbers_from (suc i) shape) (suc i + f))
+        ≡ true → (has_field (codes_from (suc i) shape) (i + suc f) || has_field (numbers_from (suc i) shape) (i + suc f)) ≡ true
+    moved i f shape h = let same : i + suc f ≡ suc i + f = omega
+        arith in ap (λ n. has_field (codes_from (suc i) shape) n || has_field (numbers_from (suc i) shape) n) same ∙ h
 
 -- each field has one of the two kinds
-pub kind-either : (fields : List Field) (f : ℕ) → f < length fields → (has_field (code_fields (shape_of fields)) f || has_field (number_fields (shape_of fields)) f) ≡ true
+pub kind-either : (fields : List Field) (f : ℕ) → f < length fields
+    → (has_field (code_fields (shape_of fields)) f || has_field (number_fields (shape_of fields)) f) ≡ true
 kind-either fields f below =
     ap (λ n. has_field (code_fields (shape_of fields)) n || has_field (number_fields (shape_of fields)) n) own
     ∙ field-either 0 f (shape_of fields) (omega (arith, below, length-map fields (λ (field : Field). domain_of field.kind)))
@@ -115,38 +131,55 @@ module _ (survey : SurveyParts) (changed : ℕ) where
   abbrev order : List ℕ
   order = giving_order survey.fields changed
 
-  order-has : (f : ℕ) → has_field order f ≡ (has_field (filter (has_number changed) (code_fields (shape_of survey.fields))) f || has_field (filter (has_number changed) (number_fields (shape_of survey.fields))) f)
+  order-has : (f : ℕ) → has_field order f ≡ (has_field (filter (has_number changed) (code_fields (shape_of survey.fields))) f || has_field
+      (filter (has_number changed) (number_fields (shape_of survey.fields))) f)
   order-has f =
-      has-append f (reverse (filter (has_number changed) (corrections.code_fields survey.fields))) (reverse (filter (has_number changed) (corrections.number_fields survey.fields)))
-      ∙ ap (λ b. b || has_field (reverse (filter (has_number changed) (corrections.number_fields survey.fields))) f) (has-reverse f (filter (has_number changed) (corrections.code_fields survey.fields)))
-      ∙ ap (λ b. has_field (filter (has_number changed) (corrections.code_fields survey.fields)) f || b) (has-reverse f (filter (has_number changed) (corrections.number_fields survey.fields)))
-      ∙ ap (λ fs. has_field (filter (has_number changed) fs) f || has_field (filter (has_number changed) (corrections.number_fields survey.fields)) f) (same_codes (corrections.code_fields survey.fields) survey.fields (shape_of survey.fields) refl refl)
-      ∙ ap (λ fs. has_field (filter (has_number changed) (code_fields (shape_of survey.fields))) f || has_field (filter (has_number changed) fs) f) (same_fields (corrections.number_fields survey.fields) survey.fields (shape_of survey.fields) refl refl)
+      has-append f (reverse (filter (has_number changed) (corrections.code_fields survey.fields)))
+      (reverse (filter (has_number changed) (corrections.number_fields survey.fields)))
+      ∙ ap (λ b. b || has_field (reverse (filter (has_number changed) (corrections.number_fields survey.fields))) f)
+      (has-reverse f (filter (has_number changed) (corrections.code_fields survey.fields)))
+      ∙ ap (λ b. has_field (filter (has_number changed) (corrections.code_fields survey.fields)) f || b)
+      (has-reverse f (filter (has_number changed) (corrections.number_fields survey.fields)))
+      ∙ ap (λ fs. has_field (filter (has_number changed) fs) f || has_field (filter (has_number changed) (corrections.number_fields survey.fields)) f)
+      (same_codes (corrections.code_fields survey.fields) survey.fields (shape_of survey.fields) refl refl)
+      ∙ ap (λ fs. has_field (filter (has_number changed) (code_fields (shape_of survey.fields))) f || has_field (filter (has_number changed) fs) f)
+      (same_fields (corrections.number_fields survey.fields) survey.fields (shape_of survey.fields) refl refl)
 
   -- each field of the order is changed
   pub order-changed : (f : ℕ) → has_field order f ≡ true → has_number changed f ≡ true
   order-changed f there = by (has_field (filter (has_number changed) (code_fields (shape_of survey.fields))) f) refl (sym (order-has f) ∙ there)
     where
-      by : (b : Bool) → has_field (filter (has_number changed) (code_fields (shape_of survey.fields))) f ≡ b → (b || has_field (filter (has_number changed) (number_fields (shape_of survey.fields))) f) ≡ true → has_number changed f ≡ true
+      by : (b : Bool) → has_field (filter (has_number changed) (code_fields (shape_of survey.fields))) f ≡ b
+          → (b || has_field (filter (has_number changed) (number_fields (shape_of survey.fields))) f) ≡ true → has_number changed f ≡ true
       by true e h = (has-filtered (has_number changed) (code_fields (shape_of survey.fields)) f e).1
       by false e h = (has-filtered (has_number changed) (number_fields (shape_of survey.fields)) f h).1
 
   -- no field stands in it twice
   pub order-distinct : AreDistinct order
   order-distinct =
-      distinct-joined (reverse (filter (has_number changed) (corrections.code_fields survey.fields))) (reverse (filter (has_number changed) (corrections.number_fields survey.fields)))
-      (distinct-reversed _ (subst (λ fs. AreDistinct (filter (has_number changed) fs)) (sym (same_codes (corrections.code_fields survey.fields) survey.fields (shape_of survey.fields) refl refl)) (distinct-filtered (has_number changed) (code_fields (shape_of survey.fields)) (distinct-from 0 (shape_of survey.fields)))))
-      (distinct-reversed _ (subst (λ fs. AreDistinct (filter (has_number changed) fs)) (sym (same_fields (corrections.number_fields survey.fields) survey.fields (shape_of survey.fields) refl refl)) (distinct-filtered (has_number changed) (number_fields (shape_of survey.fields)) (distinct-numbers 0 (shape_of survey.fields)))))
+      distinct-joined (reverse (filter (has_number changed) (corrections.code_fields survey.fields)))
+      (reverse (filter (has_number changed) (corrections.number_fields survey.fields)))
+      (distinct-reversed _ (subst (λ fs. AreDistinct (filter (has_number changed) fs))
+      (sym (same_codes (corrections.code_fields survey.fields) survey.fields (shape_of survey.fields) refl refl))
+      (distinct-filtered (has_number changed) (code_fields (shape_of survey.fields)) (distinct-from 0 (shape_of survey.fields)))))
+      (distinct-reversed _ (subst (λ fs. AreDistinct (filter (has_number changed) fs))
+      (sym (same_fields (corrections.number_fields survey.fields) survey.fields (shape_of survey.fields) refl refl))
+      (distinct-filtered (has_number changed) (number_fields (shape_of survey.fields)) (distinct-numbers 0 (shape_of survey.fields)))))
       (λ f there. false_unless _ (λ number.
-      let code = (has-filtered (has_number changed) (code_fields (shape_of survey.fields)) f (ap (λ fs. has_field (filter (has_number changed) fs) f) (sym (same_codes (corrections.code_fields survey.fields) survey.fields (shape_of survey.fields) refl refl)) ∙ sym (has-reverse f _) ∙ there)).0 in
-      let num = (has-filtered (has_number changed) (number_fields (shape_of survey.fields)) f (ap (λ fs. has_field (filter (has_number changed) fs) f) (sym (same_fields (corrections.number_fields survey.fields) survey.fields (shape_of survey.fields) refl refl)) ∙ sym (has-reverse f _) ∙ number)).0 in
+      let code = (has-filtered (has_number changed) (code_fields (shape_of survey.fields)) f
+      (ap (λ fs. has_field (filter (has_number changed) fs) f)
+      (sym (same_codes (corrections.code_fields survey.fields) survey.fields (shape_of survey.fields) refl refl)) ∙ sym (has-reverse f _) ∙ there)).0 in
+      let num = (has-filtered (has_number changed) (number_fields (shape_of survey.fields)) f
+      (ap (λ fs. has_field (filter (has_number changed) fs) f)
+      (sym (same_fields (corrections.number_fields survey.fields) survey.fields (shape_of survey.fields) refl refl)) ∙ sym (has-reverse f _) ∙ number)).0 in
       absurd (cc (sym code ∙ number-no_code f 0 (shape_of survey.fields) num))))
 
   filtered-has : (fields : List ℕ) (f : ℕ) → has_field fields f ≡ true → has_number changed f ≡ true → has_field (filter (has_number changed) fields) f ≡ true
   filtered-has [] f there is = there
   filtered-has (i ∷ fields) f there is = by (i == f) refl there (has_number changed i) refl (λ h. filtered-has fields f h is)
     where
-      by : (a : Bool) → (i == f) ≡ a → (a || has_field fields f) ≡ true → (b : Bool) → has_number changed i ≡ b → (has_field fields f ≡ true → has_field (filter (has_number changed) fields) f ≡ true)
+      by : (a : Bool) → (i == f) ≡ a → (a || has_field fields f) ≡ true → (b : Bool) → has_number changed i ≡ b
+          → (has_field fields f ≡ true → has_field (filter (has_number changed) fields) f ≡ true)
           → has_field (if b then i ∷ filter (has_number changed) fields else filter (has_number changed) fields) f ≡ true
       by true e h true g rest = ap (λ b. b || has_field (filter (has_number changed) fields) f) e
       by true e h false g rest = absurd (cc (sym g ∙ ap (λ n. has_number changed n) ((Decides-eqb i f).0 e) ∙ is))
@@ -155,18 +188,28 @@ module _ (survey : SurveyParts) (changed : ℕ) where
 
   -- a changed field of the survey is in the order
   pub order-there : (f : ℕ) → f < length (shape_of survey.fields) → has_number changed f ≡ true → has_field order f ≡ true
-  order-there f below is = order-has f ∙ by (has_field (code_fields (shape_of survey.fields)) f) refl (ap (λ n. has_field (code_fields (shape_of survey.fields)) n || has_field (number_fields (shape_of survey.fields)) n) own ∙ field-either 0 f (shape_of survey.fields) below)
+  order-there f below is =
+      order-has f ∙ by (has_field (code_fields (shape_of survey.fields)) f) refl
+      (ap (λ n. has_field (code_fields (shape_of survey.fields)) n || has_field (number_fields (shape_of survey.fields)) n) own
+      ∙ field-either 0 f (shape_of survey.fields) below)
     where
       own : f ≡ 0 + f
       own = omega arith
 
       by : (b : Bool) → has_field (code_fields (shape_of survey.fields)) f ≡ b → (b || has_field (number_fields (shape_of survey.fields)) f) ≡ true
-          → (has_field (filter (has_number changed) (code_fields (shape_of survey.fields))) f || has_field (filter (has_number changed) (number_fields (shape_of survey.fields))) f) ≡ true
-      by true e h = ap (λ b. b || has_field (filter (has_number changed) (number_fields (shape_of survey.fields))) f) (filtered-has (code_fields (shape_of survey.fields)) f e is)
-      by false e h = ap (λ b. has_field (filter (has_number changed) (code_fields (shape_of survey.fields))) f || b) (filtered-has (number_fields (shape_of survey.fields)) f h is) ∙ or_true (has_field (filter (has_number changed) (code_fields (shape_of survey.fields))) f)
+          → (has_field (filter (has_number changed) (code_fields (shape_of survey.fields))) f || has_field
+          (filter (has_number changed) (number_fields (shape_of survey.fields))) f) ≡ true
+      by true e h =
+          ap (λ b. b || has_field (filter (has_number changed) (number_fields (shape_of survey.fields))) f)
+          (filtered-has (code_fields (shape_of survey.fields)) f e is)
+      by false e h =
+          ap (λ b. has_field (filter (has_number changed) (code_fields (shape_of survey.fields))) f || b)
+          (filtered-has (number_fields (shape_of survey.fields)) f h is)
+          ∙ or_true (has_field (filter (has_number changed) (code_fields (shape_of survey.fields))) f)
 
   -- a record that is Bad at the changed fields, and as the other elsewhere, is ready to be given values
-  pub start-way : (edits : List LineParts) (target : ℕ → Value) (row blank : List Value) → IsRow survey.fields row → IsRow survey.fields blank → ((f : ℕ) → has_number changed f ≡ true → value_of blank f ≡ Bad) → ((f : ℕ) → has_number changed f ≡ false → value_of blank f ≡ value_of row f)
+  pub start-way : (edits : List LineParts) (target : ℕ → Value) (row blank : List Value) → IsRow survey.fields row → IsRow survey.fields blank
+      → ((f : ℕ) → has_number changed f ≡ true → value_of blank f ≡ Bad) → ((f : ℕ) → has_number changed f ≡ false → value_of blank f ≡ value_of row f)
       → DecideFor survey edits row order → (p : Point) → Completes survey row order p → IsUnderWay survey edits target row [] order blank
   start-way edits target row blank is_row is_blank bad keeps decide p completes = record {
     is_row = is_blank;
@@ -181,7 +224,8 @@ module _ (survey : SurveyParts) (changed : ℕ) where
     where
       outside : (f : ℕ) → has_field order f ≡ false → (b : Bool) → has_number changed f ≡ b → value_of blank f ≡ value_of row f
       outside f absent false e = keeps f e
-      outside f absent true e = bad f e ∙ sym (past-end row f (λ below. absurd (cc (sym absent ∙ order-there f (omega (arith, below, row-size survey.fields row is_row)) e))))
+      outside f absent true e =
+          bad f e ∙ sym (past-end row f (λ below. absurd (cc (sym absent ∙ order-there f (omega (arith, below, row-size survey.fields row is_row)) e))))
 
       same : SameBut order row blank
       same = (row-size survey.fields blank is_blank ∙ sym (row-size survey.fields row is_row), λ f absent. outside f absent (has_number changed f) refl)

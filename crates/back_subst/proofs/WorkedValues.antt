@@ -21,7 +21,8 @@ open_at : ℤ → End
 open_at n = record { at = record { numerator = n; denominator = pos 1 }; positive = omega (arith, ints); strict = true }
 
 -- A > 0, A < 1, and no donor: 1/2
-between_open : nearest (record { lower = Some (open_at (pos 0)); upper = Some (open_at (pos 1)) }) (whole (pos 0)) ≡ record { numerator = pos 1; denominator = pos 2 }
+between_open : nearest (record { lower = Some (open_at (pos 0)); upper = Some (open_at (pos 1)) }) (whole (pos 0))
+    ≡ record { numerator = pos 1; denominator = pos 2 }
 unfolding open_at
 between_open = refl
 
@@ -54,21 +55,25 @@ abbrev one_field : List Domain
 one_field = Numerical ∷ []
 
 -- A > 0 and A < 1, of a record that is blank: 1/2
-walked_between : number_result (parts_of one_field [] (pos 1 ∷ []) (pos 0) Above ∷ parts_of one_field [] (negsuc 0 ∷ []) (pos 1) Above ∷ []) (Bad ∷ []) 0 (whole (pos 0)) ≡ Ok (record { numerator = pos 1; denominator = pos 2 })
+walked_between : number_result (parts_of one_field [] (pos 1 ∷ []) (pos 0) Above ∷ parts_of one_field [] (negsuc 0 ∷ []) (pos 1) Above ∷ []) (Bad ∷ []) 0
+    (whole (pos 0)) ≡ Ok (record { numerator = pos 1; denominator = pos 2 })
 unfolding gcd
 walked_between = refl
 
 -- 3 A - 1 >= 0: 1/3
-walked_third : number_result (parts_of one_field [] (pos 3 ∷ []) (negsuc 0) AtLeast ∷ []) (Bad ∷ []) 0 (whole (pos 0)) ≡ Ok (record { numerator = pos 1; denominator = pos 3 })
+walked_third : number_result (parts_of one_field [] (pos 3 ∷ []) (negsuc 0) AtLeast ∷ []) (Bad ∷ []) 0 (whole (pos 0))
+    ≡ Ok (record { numerator = pos 1; denominator = pos 3 })
 unfolding gcd
 walked_third = refl
 
 -- A > 2^126 and A < 2^127 - 1, and no donor: the sum of both ends leaves the range, at the line of the lower end
-walked_out : number_result (parts_of one_field [] (negsuc 0 ∷ []) (pos (2 ^ 127 - 1)) Above ∷ parts_of one_field [] (pos 1 ∷ []) (negsuc (2 ^ 126 - 1)) Above ∷ []) (Bad ∷ []) 0 (whole (pos 0)) ≡ Err 1
+walked_out : number_result (parts_of one_field [] (negsuc 0 ∷ []) (pos (2 ^ 127 - 1)) Above ∷ parts_of one_field [] (pos 1 ∷ []) (negsuc (2 ^ 126 - 1))
+    Above ∷ []) (Bad ∷ []) 0 (whole (pos 0)) ≡ Err 1
 unfolding gcd
 walked_out = refl
 
 -- 3 A - 1 = 0: 1/3 for each target
-walked_equal : number_result (parts_of one_field [] (pos 3 ∷ []) (negsuc 0) Equal ∷ []) (Bad ∷ []) 0 (whole (pos 7)) ≡ Ok (record { numerator = pos 1; denominator = pos 3 })
+walked_equal : number_result (parts_of one_field [] (pos 3 ∷ []) (negsuc 0) Equal ∷ []) (Bad ∷ []) 0 (whole (pos 7))
+    ≡ Ok (record { numerator = pos 1; denominator = pos 3 })
 unfolding gcd
 walked_equal = refl

@@ -1,4 +1,5 @@
-use Rattle.std.specs.Prelude.{◌≡◌, ◌≢◌, ◌⊎◌, ◌<◌, ◌≤◌, ℕ, ◌^◌, ◌*ℤ◌, ◌==◌, Bool, true, false, List, [], Option, Some, None, IfSome, if◌then◌else◌, length, map, take}
+use Rattle.std.specs.Prelude.{◌≡◌, ◌≢◌, ◌⊎◌, ◌<◌, ◌≤◌, ℕ, ◌^◌, ◌*ℤ◌, ◌==◌, Bool, true, false, List, [], Option, Some, None}
+use Rattle.std.specs.Prelude.{IfSome, if◌then◌else◌, length, map, take}
 use Rattle.std.specs.List.{filter}
 use Rattle.std.specs.Ordering.{int_eq}
 use Rattle.edit_model.specs.Corrections.{Differs, IsCorrection, IsLeastWeight, path_order}

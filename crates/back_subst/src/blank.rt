@@ -1,4 +1,4 @@
-//! A record without values at its changed fields.
+//! A record without values at its changed fields, which are then given one after the other.
 ghost use Rattle.std.specs.Prelude.{◌≡◌, IfOk, false, true, ℕ};
 ghost use Rattle.edit_model.specs.FieldSets.{has_number};
 ghost use Rattle.edit_model.specs.Rows.{IsRow, value_of};
@@ -8,8 +8,9 @@ use edit_model::{FieldSet, Row, Survey, Value};
 use foundation::OutOfMemory;
 use std::alloc::Global;
 
-/// The record, Bad at the fields of the set.
-pub(crate) fn blanked(
+/// A copy of the record without a value (`Bad`) at the fields of the set `changed`, and with its own values
+/// at all others.
+pub(crate) fn blank_fields(
     alloc: Global,
     survey: &Survey,
     row: &Row,

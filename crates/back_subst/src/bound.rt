@@ -1,9 +1,14 @@
+//! The bounds of the numbers that a field may have, and the number between them that is given for a target.
+//! In this file `lower` says of a bound whether it is a lower or an upper one. In contracts, `found_of` is a
+//! bound as definitions see it, and `ends_of` both bounds. `side_of` is 1 for a lower bound, and -1 for an
+//! upper one. `number_told` is what a call answers: a number, or the place of a line.
 ghost use Rattle.std.specs.Prelude.{◌≡◌};
 ghost use Rattle.fraction128.specs.Formulas.{answered, ratio_of};
 ghost use Rattle.edit_line.specs.Lines.{bound_relation};
 ghost use Rattle.edit_line.specs.Subsumption.{is_enough};
 ghost use Rattle.edit_line.specs.Sums.{whole};
-ghost use Rattle.back_subst.specs.NumberWalk.{bounded_by, inside_by, is_further_in, nearest_found, no_bounds, number_at, step_in, tighter, with_found};
+ghost use Rattle.back_subst.specs.NumberWalk.{bounded_by, inside_by, is_further_in, nearest_found, no_bounds};
+ghost use Rattle.back_subst.specs.NumberWalk.{number_at, step_in, tighter, with_found};
 ghost use Rattle.back_subst.specs.inner.Sides.{ends_of, found_any, found_of, number_told, side_of};
 
 use edit_line::Relation;
@@ -29,7 +34,8 @@ pub struct Bounds {
 }
 
 impl Bound {
-    /// Whether the number is on the inner side of the bound, which is a lower or an upper one.
+    /// Whether `x` is on the inner side of the bound: above a lower one, or below an upper one. The bound
+    /// itself is, unless it is left out (`strict`).
     pub fn admits(self, lower: bool, x: Fraction) -> bool
         ensures { result ≡ is_enough (bound_relation self.strict) (inside_by (side_of lower) (found_of self) (ratio_of x)) }
     {
@@ -40,8 +46,8 @@ impl Bound {
         }
     }
 
-    /// Whether this bound, which comes later, is tighter than the other: it is further in, or is the
-    /// same number and left out where the other is not.
+    /// Whether this bound, which comes later, is tighter than the other: it is further in, or only it is
+    /// left out at the same number.
     fn is_tighter(self, lower: bool, other: Bound) -> bool
         ensures { result ≡ is_further_in (side_of lower) (found_of other) (found_of self) }
     {
@@ -52,7 +58,8 @@ impl Bound {
         }
     }
 
-    /// The tighter of both bounds; the earlier one where they are equal.
+    /// The tighter of this bound and an earlier one on the same side, if there is one; the earlier one
+    /// where they are equal.
     pub fn narrow(self, lower: bool, old: Option<Bound>) -> Bound
         ensures { found_of result ≡ tighter (side_of lower) (found_any old) (found_of self) }
     {
@@ -68,9 +75,9 @@ impl Bound {
         }
     }
 
-    /// The number at this bound, where the target is not past it: the bound, or, where that is left out,
-    /// the middle of both bounds, or one further in where there is no other. The line of this bound where
-    /// a number leaves the range.
+    /// The number that is given at this bound, where it keeps the target out. That is the bound, or a
+    /// number further in where the bound is left out. `other` is the bound on the other side, if there is
+    /// one. Err has the place of this bound's line, where the number further in leaves the range.
     fn nearest_at(self, lower: bool, other: Option<Bound>) -> Result<Fraction, u64>
         ensures { number_told result ≡ number_at (side_of lower) (found_of self) (found_any other) }
     {
@@ -83,7 +90,8 @@ impl Bound {
         }
     }
 
-    /// The middle of both bounds, or one further in where there is no other.
+    /// A number inside this bound: the middle of both bounds, or, where there is no other, 1 further in
+    /// than the bound. Refused where it leaves the range.
     fn further_in(self, lower: bool, other: Option<Bound>) -> Result<Fraction, Overflow>
         ensures { answered result ≡ step_in (side_of lower) (ratio_of self.at) (found_any other) }
     {
@@ -94,7 +102,7 @@ impl Bound {
     }
 }
 
-/// 1 for a lower bound, -1 for an upper one.
+/// The step of 1 from a bound into its inner side: 1 for a lower bound, -1 for an upper one.
 fn inward(lower: bool) -> Fraction
     ensures { ratio_of result ≡ whole (side_of lower) }
 {
@@ -116,8 +124,8 @@ impl Bounds {
         }
     }
 
-    /// The number between the bounds that is given for the target: the target, or the one at the bound
-    /// that keeps it out. The place of that bound's line where a number leaves the range.
+    /// The number between the bounds that is given for the target: the target, or the one at the bound that
+    /// keeps it out. Err has the place of that bound's line, where the number there leaves the range.
     pub fn nearest(self, target: Fraction) -> Result<Fraction, u64>
         ensures { number_told result ≡ nearest_found (ends_of self) (ratio_of target) }
     {
@@ -134,7 +142,8 @@ impl Bounds {
         Ok(target)
     }
 
-    /// The bounds, and one more.
+    /// The bounds, narrowed by one more, which is a lower or an upper one. Where there was one on that
+    /// side, the tighter of both stays.
     pub fn with(self, lower: bool, new: Bound) -> Bounds
         ensures { ends_of result ≡ with_found (ends_of self) lower (found_of new) }
     {
@@ -151,7 +160,9 @@ impl Bounds {
         }
     }
 
-    /// The bounds, and those of a line with this relation: an equality bounds from both sides.
+    /// The bounds, narrowed by those of the line at place `line` of the system, which end at the number `at`.
+    /// `relation` is the line's. An equality bounds from both sides, another line from the side that `lower`
+    /// says. A sum that has to be above 0 leaves `at` itself out.
     pub fn bounded_by(self, relation: Relation, lower: bool, at: Fraction, line: u64) -> Bounds
         ensures { ends_of result ≡ bounded_by relation (ends_of self) lower (ratio_of at) line }
     {

@@ -1,10 +1,11 @@
-//! The code that is given to a categorical field.
-ghost use Rattle.std.specs.Prelude.{◌≡◌, ◌≢◌, ◌<◌, ◌==◌, ◌^◌, ◌↔◌, Ok, false, true, All, IfNone, IfOk, IfSome, IsTrue, List, ℕ, length, slice_index_or};
-ghost use Rattle.std.specs.List.{list_any};
+//! The code that is given to a categorical field. In contracts, `AreBoxesOver` says that each box has a set
+//! for each categorical field. `CanSettle` says that settling the other fields takes fewer than 2^64 pairs
+//! each, and `HasFreeCode` that then some code is in no box. `IsCodeFor` says that the code is the one given.
+ghost use Rattle.std.specs.Prelude.{◌≡◌, ◌≢◌, ◌<◌, ◌^◌, Ok, false, true, All, IfNone, IfOk, IfSome, List, ℕ, length};
 ghost use Rattle.edit_line.specs.inner.LineFields.{IsCategorical};
 ghost use Rattle.edit_model.specs.Points.{has_code};
 ghost use Rattle.edit_model.specs.Rows.{IsRow, value_of};
-ghost use Rattle.edit_line.specs.CodeFields.{TakesCodes, place_of, size_of};
+ghost use Rattle.edit_line.specs.CodeFields.{TakesCodes, size_of};
 ghost use Rattle.edit_line.specs.Reductions.{lines_of};
 ghost use Rattle.edit_line.specs.Shapes.{Domain, code_fields, shape_of};
 ghost use Rattle.categ_combine.specs.BoxLists.{AreBoxesOver, sets_of};
@@ -20,10 +21,10 @@ use edit_model::{Row, Survey, Value};
 use foundation::OutOfMemory;
 use std::alloc::Global;
 
-/// The code that is given to a categorical field of the record, where the record is Bad at the fields that
-/// are left after it, and these are the lines of the system without the changed numerical fields: the
-/// target, where no box has it after the other fields are settled, and else the first code that none has.
-/// There is such a code.
+/// The code that is given to the categorical `field` of the record, which is Bad at the fields that are
+/// given codes after it. `lines` is the system without the changed numerical fields, whose sums are in
+/// range. The other fields are settled: each is fixed at its code, or eliminated. The code is the target,
+/// where no box that is left has it, and else the first code that none has. There is such a code.
 pub(crate) fn code_for(
     alloc: Global,
     survey: &Survey,
@@ -48,7 +49,8 @@ pub(crate) fn code_for(
     Ok(first_free(survey, &settled, field, target))
 }
 
-// The boxes after all categorical fields but one.
+// The boxes after all categorical fields but the field `but` are settled, by the record's values. They say
+// which codes of `but` are forbidden.
 fn settle_others(
     alloc: Global,
     survey: &Survey,
@@ -67,14 +69,14 @@ fn settle_others(
     let mut kept = boxes;
     for field in survey.codes() {
         if *field != but {
-            kept = settled(alloc, survey, &kept, row, *field)?;
+            kept = settle_field(alloc, survey, &kept, row, *field)?;
         }
     }
     Ok(kept)
 }
 
 // The boxes after one field: it is eliminated where the record is Bad, and else fixed at its code.
-fn settled(
+fn settle_field(
     alloc: Global,
     survey: &Survey,
     boxes: &[BoxFrom],
@@ -99,7 +101,8 @@ fn settled(
     }
 }
 
-// The target, where no box has it, and else the first code that none has. There is such a code.
+// The target, where it is one of the field's codes and no box has it there, and else the first code that
+// none has. There is such a code.
 fn first_free(survey: &Survey, boxes: &[BoxFrom], field: u32, target: u8) -> u8
     requires over { AreBoxesOver (shape_of survey.now.fields) boxes.now }
     requires field { IsCategorical (shape_of survey.now.fields) field }
@@ -117,7 +120,8 @@ fn first_free(survey: &Survey, boxes: &[BoxFrom], field: u32, target: u8) -> u8
     }
 }
 
-/// The first of the codes of a field of this size that no box has at the place.
+/// The first of the codes below `size`, the field's count of codes, that no box has. None where each is in
+/// some box. `place` is the field's among the categorical ones.
 pub(crate) fn first_among(boxes: &[BoxFrom], place: usize, size: u8) -> Option<u8>
     requires { (shape : List Domain) × AreBoxesOver shape boxes.now × (place < length (code_fields shape)) }
     ensures free { IfSome result (λ code. IsFirstFree (sets_of boxes.now) place size code) }
@@ -131,7 +135,7 @@ pub(crate) fn first_among(boxes: &[BoxFrom], place: usize, size: u8) -> Option<u
     None
 }
 
-/// Whether no box has the code at the place.
+/// Whether no box has the code at the field with this place among the categorical ones.
 pub(crate) fn is_free(boxes: &[BoxFrom], place: usize, code: u8) -> bool
     requires { (shape : List Domain) × AreBoxesOver shape boxes.now × (place < length (code_fields shape)) }
     ensures { result ≡ is_free_at (sets_of boxes.now) place code }

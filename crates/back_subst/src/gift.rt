@@ -1,3 +1,5 @@
+//! What giving values to a record answers: the record with its values and how each was found, or why there
+//! are none.
 use edit_model::Row;
 use foundation::{OutOfMemory, Sequence};
 
@@ -12,7 +14,7 @@ pub enum How {
     Nearest,
 }
 
-/// A record that was given values, and how each was found, per changed field in path order.
+/// A record that was given values, and how each was found: one `How` for each changed field, in path order.
 #[derive(Debug, Drop)]
 pub struct Gift {
     pub row: Row,
@@ -22,11 +24,12 @@ pub struct Gift {
 /// Why no values are given.
 #[derive(Clone, Copy, Debug, PartialEq, Eq)]
 pub enum GiveFault {
-    /// A number of a bound of the field, by the line at this place, leaves the range.
+    /// A number of a bound of the field leaves the range. The line at this place gives the bound, in the
+    /// system by which the field is given its number.
     Bound { field: u32, line: u64 },
-    /// A number of the final test of a rule leaves the range.
+    /// A number leaves the range in the final test of the rule of this number, from 0.
     Test { rule: u32 },
-    /// Want of memory.
+    /// Memory was refused.
     OutOfMemory,
 }
 
@@ -36,6 +39,7 @@ impl From<OutOfMemory> for GiveFault {
 
     ghost from_gives = { λ _ fault. fault ≡ faults.OutOfMemory };
 
+    // Refused memory, as the fault that says so.
     fn from(_refused: OutOfMemory) -> Self {
         GiveFault::OutOfMemory
     }

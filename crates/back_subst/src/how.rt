@@ -1,4 +1,5 @@
-//! How the values of a record were found.
+//! How the values of a record were found, told from the values themselves and the donor. In contracts,
+//! `IsDonorRecord` says that the donor, if there is one, has a value at each field.
 ghost use Rattle.std.specs.Prelude.{◌≡◌, ◌<◌, IfOk, IfSome, length, option_copied};
 ghost use Rattle.edit_model.specs.Rows.{IsRow};
 ghost use Rattle.back_subst.specs.Gifts.{IsDonorRecord, how_of, hows_of, is_target, taken_from};
@@ -10,7 +11,8 @@ use foundation::OutOfMemory;
 use std::alloc::Global;
 use std::cmp::Ordering;
 
-/// How the value at each field of the set was found, in path order.
+/// How the value at each field of the set `changed` was found, in path order. `row` is the record with these
+/// values, and `donor` is where they were looked for first.
 pub(crate) fn hows(
     alloc: Global,
     survey: &Survey,
@@ -32,7 +34,8 @@ pub(crate) fn hows(
     Ok(how)
 }
 
-/// How the value at the field was found.
+/// How the value at the field was found: as the target, or as the nearest allowed one. The target is the
+/// donor's value, and without a donor 0 or the first code.
 pub(crate) fn how_of(donor: Option<&Row>, field: u32, value: &Value) -> How
     requires { IfSome (option_copied donor) (λ row. field < length row) }
     ensures { result ≡ how_of (option_copied donor.entry) field value.now }
@@ -44,7 +47,7 @@ pub(crate) fn how_of(donor: Option<&Row>, field: u32, value: &Value) -> How
     }
 }
 
-// How a target that was taken was found.
+// How a target that was taken was found: it is the donor's value, or the default where there is no donor.
 fn taken_from(donor: Option<&Row>) -> How
     ensures { result ≡ taken_from (option_copied donor.entry) }
 {
@@ -54,7 +57,8 @@ fn taken_from(donor: Option<&Row>) -> How
     }
 }
 
-// Whether the value is the target.
+// Whether the value is the target. A target of no value stands for 0 and for the first code; a value of
+// none is no target.
 fn is_target(target: &Value, value: &Value) -> bool
     ensures { result ≡ is_target target.now value.now }
 {

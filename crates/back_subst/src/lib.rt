@@ -15,6 +15,7 @@ mod line_bounds;
 mod number;
 mod order;
 mod path_set;
+mod task;
 mod value;
 
 pub use gift::{Gift, GiveFault, How};

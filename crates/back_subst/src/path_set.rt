@@ -1,11 +1,11 @@
-//! The set of the fields that a path changes.
+//! The set of the fields that a complete path changes.
 ghost use Rattle.std.specs.Prelude.{◌≡◌, length};
 ghost use Rattle.back_subst.specs.Gifts.{path_of};
 
 use edit_model::{FieldSet, Survey};
 
-/// The set of the fields that a path changes. The path says of each field of the survey, in path order, whether
-/// it is changed. No memory.
+/// The set of the fields that a path changes. The path says of each field of the survey, in path order,
+/// whether it is changed (true) or kept. No memory.
 pub fn changed_set(survey: &Survey, path: &[bool]) -> FieldSet
     requires whole { length path.now ≡ length survey.now.fields }
     ensures path { path_of survey.now.fields result ≡ path.now }

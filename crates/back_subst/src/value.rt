@@ -1,4 +1,4 @@
-//! Values as targets.
+//! The values that fields are given where the rules allow them: the targets.
 ghost use Rattle.std.specs.Prelude.{◌≡◌, ◌<◌, IfSome, length, option_copied};
 ghost use Rattle.fraction128.specs.Formulas.{ratio_of};
 ghost use Rattle.back_subst.specs.Given.{number_in, target_of};
@@ -6,7 +6,7 @@ ghost use Rattle.back_subst.specs.Given.{number_in, target_of};
 use edit_model::{Row, Value};
 use fraction128::Fraction;
 
-/// The number of a value, 0 where it is none.
+/// The number of a value, 0 where it is a code or there is none.
 pub(crate) fn number_of(value: &Value) -> Fraction
     ensures { ratio_of result ≡ number_in value.now }
 {
@@ -16,7 +16,8 @@ pub(crate) fn number_of(value: &Value) -> Fraction
     }
 }
 
-/// The donor's value at the field, Bad where there is no donor.
+/// The target at the field: the donor's value, and Bad where there is no donor. As a target, Bad stands for
+/// 0 or the first code.
 pub(crate) fn target_of(donor: Option<&Row>, field: u32) -> Value
     requires { IfSome (option_copied donor) (λ row. field < length row) }
     ensures { result ≡ target_of (option_copied donor.entry) field }

@@ -1,4 +1,5 @@
-use Rattle.std.proofs.Common.{◌≡◌, ◌⊎◌, inl, inr, ℕ, suc, ◌<◌, ◌++◌, ◌==◌, not, Bool, true, false, List, [], ◌∷◌, append-nil, append_assoc, length, slice_get, slice_set, Some, ℤ, ◌*ℤ◌, refl, sym, ap, ◌∙◌, subst, arith}
+use Rattle.std.proofs.Common.{◌≡◌, ◌⊎◌, inl, inr, ℕ, suc, ◌<◌, ◌++◌, ◌==◌, not, Bool, true, false, List, [], ◌∷◌, append-nil, append_assoc, length, slice_get}
+use Rattle.std.proofs.Common.{slice_set, Some, ℤ, ◌*ℤ◌, refl, sym, ap, ◌∙◌, subst, arith}
 use Rattle.std.specs.Ordering.{int_eq}
 use Rattle.std.proofs.lemmas.Bool.Decides.{Decides-eqb, Decides-int_eq}
 use Rattle.fraction128.specs.declared.fraction.Fraction.{Fraction}

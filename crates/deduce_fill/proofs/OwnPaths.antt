@@ -1,4 +1,5 @@
-use Rattle.std.proofs.Common.{◌≡◌, ℕ, zero, suc, ◌+◌, ◌<◌, ◌==◌, ◌&&◌, ◌||◌, not, Bool, true, false, if◌then◌else◌, List, [], ◌∷◌, length, map, slice_index_or, refl, sym, ap, ◌∙◌, arith}
+use Rattle.std.proofs.Common.{◌≡◌, ℕ, zero, suc, ◌+◌, ◌<◌, ◌==◌, ◌&&◌, ◌||◌, not, Bool, true, false, if◌then◌else◌, List, [], ◌∷◌, length, map, slice_index_or}
+use Rattle.std.proofs.Common.{refl, sym, ap, ◌∙◌, arith}
 use Rattle.std.proofs.lemmas.Bool.Decides.{Decides-eqb}
 use Rattle.std.proofs.lemmas.List.{length-map}
 use Rattle.edit_model.specs.Corrections.{path_order}
@@ -56,7 +57,8 @@ module _ (fields : List Field) (row : List Value) where
 
   -- the fields without a value
   pub bad-in : (f : ℕ) → f < length fields → value_of row f ≡ Bad → IsIn f (bad_fields fields row)
-  bad-in f below bad = in-filter (λ f. is_bad (value_of row f)) f (path_order fields) (ap is_bad bad) (has-there f (path_order fields) (in-order fields f below))
+  bad-in f below bad = in-filter (λ f. is_bad (value_of row f)) f (path_order fields) (ap is_bad bad)
+      (has-there f (path_order fields) (in-order fields f below))
 
   pub bad-out : (f : ℕ) → IsIn f (bad_fields fields row) → (has_field (path_order fields) f ≡ true) × (is_bad (value_of row f) ≡ true)
   bad-out f there =

@@ -1,4 +1,5 @@
-use Rattle.std.proofs.Common.{◌≡◌, ◌↔◌, ℕ, zero, suc, ◌<◌, ◌≤◌, ◌^◌, ◌==◌, ◌&&◌, ◌||◌, not, Bool, true, false, if◌then◌else◌, List, [], ◌∷◌, length, map, slice_index_or, slice_set, ℤ, pos, negsuc, ◌<ℤ◌, ◌+ℤ◌, ◌*ℤ◌, refl, sym, ap, ◌∙◌, subst, arith}
+use Rattle.std.proofs.Common.{◌≡◌, ◌↔◌, ℕ, zero, suc, ◌<◌, ◌≤◌, ◌^◌, ◌==◌, ◌&&◌, ◌||◌, not, Bool, true, false, if◌then◌else◌, List, [], ◌∷◌, length, map}
+use Rattle.std.proofs.Common.{slice_index_or, slice_set, ℤ, pos, negsuc, ◌<ℤ◌, ◌+ℤ◌, ◌*ℤ◌, refl, sym, ap, ◌∙◌, subst, arith}
 use lib.IntN.{neg_ℤ}
 use Rattle.std.specs.Int.{bit_at}
 use Rattle.std.proofs.lemmas.Bool.Decides.{Decides-eqb}
@@ -9,7 +10,8 @@ use Rattle.fraction128.proofs.Whole.{parts, ring, same_dif}
 use Rattle.edit_model.specs.Points.{Point, has_code}
 use Rattle.edit_line.specs.Lines.{LineHolds, amount, weighted}
 use Rattle.edit_line.specs.Sets.{AreCodesIn, are_codes_in}
-use Rattle.edit_line.specs.Shapes.{Categorical, Domain, HasCodes, Numerical, codes_at, code_fields, has_field, number_fields, numbers_from, numerators_at, place_in, whole_sets}
+use Rattle.edit_line.specs.Shapes.{Categorical, Domain, HasCodes, Numerical, codes_at, code_fields, has_field, number_fields, numbers_from, numerators_at}
+use Rattle.edit_line.specs.Shapes.{place_in, whole_sets}
 use Rattle.edit_line.proofs.NegationLaws.{never-Decides}
 use Rattle.edit_line.proofs.PointCodes.{length-codes_at, wholes-inside}
 use Rattle.edit_line.proofs.SetLaws.{is_inside-Decides}

@@ -1,4 +1,4 @@
-//! The fields at which a record has no value.
+//! The fields at which a record has no value, as a list, as a path and as a set.
 ghost use Rattle.std.specs.Prelude.{◌≡◌, ◌<◌, ◌++◌, ◌∷◌, [], All, IfOk, OnOk, if◌then◌else◌, length};
 ghost use Rattle.edit_model.specs.FieldSets.{set_of};
 ghost use Rattle.edit_model.specs.Rows.{IsRow, is_bad, value_of};
@@ -20,7 +20,7 @@ pub(crate) fn bad_fields(alloc: Global, survey: &Survey, row: &Row) -> Result<Ve
     Ok(fields)
 }
 
-// Puts the field last where the record has no value there.
+// Appends the field where the record has no value there.
 fn push_if_bad(fields: &mut Vec<u32>, row: &Row, field: u32) -> Result<(), OutOfMemory>
     requires { field < length row.now }
     ensures { OnOk result (fields.new.items ≡ fields.old.items ++ (if is_bad (value_of row.now field) then field ∷ [] else [])) }
@@ -31,7 +31,8 @@ fn push_if_bad(fields: &mut Vec<u32>, row: &Row, field: u32) -> Result<(), OutOf
     Ok(())
 }
 
-/// The path of the record: it changes just these fields.
+/// The record's own path: for each field in path order, whether the record has no value there. Such a field
+/// is changed (true), and any other is kept (false).
 pub(crate) fn own_path(alloc: Global, survey: &Survey, row: &Row) -> Result<Vec<bool>, OutOfMemory>
     requires { IsRow survey.now.fields row.now }
     ensures { IfOk result (λ path. path.items ≡ own_path survey.now.fields row.now) }

@@ -1,4 +1,5 @@
-//! The tests of one field.
+//! The tests of one field: whether it may have another value than the candidate's. In contracts, `IsTask`
+//! says that the task's edits say what the rules say, and that its path is the record's own.
 ghost use Rattle.std.specs.Prelude.{◌≡◌, ◌+◌, ◌<◌, ◌≤◌, [], All, IfOk, length};
 ghost use Rattle.edit_line.specs.Lines.{IsLine};
 ghost use Rattle.edit_line.specs.Shapes.{shape_of};
@@ -15,7 +16,10 @@ use prefix_walk::{Walk, WalkEnd, walk_along};
 use std::alloc::Global;
 use std::sync::ledger::Ledger;
 
-/// What the tests of a field find, one for each line, after this many tests and this work.
+/// What the tests of a field find. Each of `lines` makes the value another one, and is tested by a walk over
+/// the edits and the line. Where all walks close, the value is forced; at the first that stays open it is
+/// not. At a walk that passes the budget, or leaves the range, all is stopped. `tests` and `work` say how
+/// many tests and how much work were done for the record before.
 pub(crate) fn test_field<L: Ledger>(
     alloc: Global,
     task: &Task,
@@ -53,7 +57,8 @@ pub(crate) fn test_field<L: Ledger>(
     })
 }
 
-// What the walk along the record's path ends in, over the edits and the line, after this work.
+// What the walk along the record's path ends in, over the edits and the line. `spent` is the work done for
+// the record before.
 fn walk_with<L: Ledger>(
     alloc: Global,
     task: &Task,

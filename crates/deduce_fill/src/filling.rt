@@ -1,4 +1,7 @@
-//! The filling of a record.
+//! The filling of a record: a walk and a candidate first, and then the tests of each field without a value.
+//! In contracts, `IsFilled` says that the answer is the one that the definition has, and `IsOnlyAnswer` that
+//! it has no other. `FillsForced`, `HasNoCompletion` and `IsShown` say that just the forced values are
+//! filled, that a blocked record has no completion, and that the steps show both.
 ghost use Rattle.std.specs.Prelude.{◌≡◌, ◌<◌, ◌≤◌, [], IfOk, length};
 ghost use Rattle.std.specs.Arc.{arc_value};
 ghost use Rattle.edit_line.specs.EditSets.{SayTheRules, lines_without};
@@ -30,10 +33,11 @@ use std::alloc::Global;
 use std::sync::Arc;
 use std::sync::ledger::Ledger;
 
-/// What becomes of a record whose fields without a value are to be filled: such a field takes the value that the rules force,
-/// and no other field is filled (deductive imputation; De Waal, Pannekoek and Scholtus 2011). A walk along the record's own
-/// path shows that it has a completion, or that it has none; then each field is tested by whether another value than a
-/// candidate's is possible there. The edits are all of the survey's rules, numbered by their places.
+/// What becomes of a record whose fields without a value are to be filled (deductive imputation; De Waal,
+/// Pannekoek and Scholtus 2011). Such a field takes the value that the rules force, if they force one. A
+/// walk along the record's own path shows whether it has a completion. Then each field is tested by whether
+/// another value than a candidate's is possible there. The edits are those of all rules, numbered by their
+/// places; `budget` is the most work of all walks.
 pub fn fill<L: Ledger>(
     alloc: Global,
     survey: &Survey,
@@ -74,7 +78,8 @@ pub fn fill<L: Ledger>(
     fill_fields(alloc, &task, &fields, steps)
 }
 
-// What becomes of a record with these fields without a value.
+// What becomes of a record that has no value at just these fields: the walk along its own path comes first.
+// `task` has the record with its edits, its path and the budget (`IsTask`).
 fn fill_fields<L: Ledger>(
     alloc: Global,
     task: &Task,
@@ -103,7 +108,9 @@ fn fill_fields<L: Ledger>(
     }
 }
 
-// What becomes of a record whose path is open, after this work.
+// What becomes of a record whose own path is open, as a walk of this work found. A candidate is given values
+// without a donor, and each field is tested by it. Where a number leaves the range in that giving, the
+// answer is the overflow of test 0.
 fn fill_open<L: Ledger>(
     alloc: Global,
     task: &Task,
@@ -136,7 +143,8 @@ fn fill_open<L: Ledger>(
     }
 }
 
-// What the tests of all fields without a value make of the record, with the values of a candidate, after this work.
+// What the tests of all fields without a value make of the record, after this work. `candidate` is the
+// record with values given at these fields.
 fn test_fields<L: Ledger>(
     alloc: Global,
     task: &Task,
@@ -170,8 +178,8 @@ fn test_fields<L: Ledger>(
     })
 }
 
-// What was found of the fields so far: the record with the values that are forced, these, and how many tests and how much
-// work that took.
+// What was found of the fields so far: the record with the values that are forced, and a list of these.
+// `tests` is how many tests this took, and `work` how much work.
 #[derive(Drop)]
 struct Filling {
     row: Row,
@@ -180,7 +188,8 @@ struct Filling {
     work: u64,
 }
 
-// Tests one field more. There is an answer where the tests end what is done for the record.
+// Tests one field more, and fills it where its value is forced. Then, and where it is not forced, the answer
+// is None. Where a test passes the budget or a number leaves the range, it is the record's answer.
 fn test_next<L: Ledger>(
     alloc: Global,
     task: &Task,

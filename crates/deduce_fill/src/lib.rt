@@ -1,6 +1,6 @@
-//! Deductive imputation: a field without a value is filled where the rules force its value, and no other field is. Begin with
-//! [`fill`] and `specs/Forced.antt`, which says when a value is forced; what an answer says of the record is the contract of
-//! [`fill_laws`].
+//! Deductive imputation: a field without a value is filled where the rules force its value, and no other
+//! field is. Begin with [`fill`] and `specs/Forced.antt`, which says when a value is forced; what an answer
+//! says of the record is the contract of [`fill_laws`].
 #![tactic(auto)]
 
 mod bad_fields;

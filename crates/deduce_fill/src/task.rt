@@ -1,3 +1,4 @@
+//! What the walks and the tests of one record have in common, whose fields are to be filled.
 use edit_line::Edits;
 use edit_model::{Row, Survey};
 use std::sync::Arc;

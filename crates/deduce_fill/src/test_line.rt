@@ -1,4 +1,5 @@
-//! The lines by which a value at a field is tested, and the edits with one of them.
+//! The lines by which a value at a field is tested, and the edits with one of them. A line asks that a sum
+//! is at least 0, or above 0, where the record's codes are in its sets.
 ghost use Rattle.std.specs.Prelude.{◌≡◌, ◌<◌, ◌≤◌, ◌==◌, ◌++◌, ◌∷◌, [], IfOk, if◌then◌else◌, length, neg_ℤ, pos, true};
 ghost use Rattle.std.specs.Arc.{arc_value};
 ghost use Rattle.fraction128.specs.Range.{InRange};
@@ -15,7 +16,9 @@ use foundation::OutOfMemory;
 use std::alloc::Global;
 use std::sync::Arc;
 
-/// The lines of which one holds exactly where a point has another value than the record's at the field.
+/// The lines by which the record's value at the field is tested. Where a point has another value there one
+/// of them holds, and else none. They are two for a number, above it and below it, one for a code, and none
+/// for no value.
 pub(crate) fn test_lines_of(
     alloc: Global,
     survey: &Survey,
@@ -53,7 +56,7 @@ pub(crate) fn test_lines_of(
     Ok(lines)
 }
 
-// The factor times the number at the field, and the constant, are above 0.
+// The line `factor * x + constant > 0` for all codes, where x is the number at the field.
 fn side_line(
     alloc: Global,
     survey: &Survey,
@@ -75,14 +78,15 @@ fn side_line(
     Ok(Line::new(survey, sets, factors, constant, Relation::Above))
 }
 
-// The factor at the field itself, and 0 elsewhere.
+// The factor of field `other` in a line in which `field` stands alone with this factor: 0 at every other
+// field.
 fn factor_at(other: u32, field: u32, factor: i128) -> i128
     ensures { result ≡ (if other == field then factor else pos 0) }
 {
     if other == field { factor } else { 0 }
 }
 
-// The negative of a number.
+// The negative of a number in range, which is in range too.
 fn negative(number: i128) -> i128
     requires { InRange number }
     ensures value { result ≡ neg_ℤ number }
@@ -91,7 +95,8 @@ fn negative(number: i128) -> i128
     -number
 }
 
-// The code at the field is another one.
+// The line that says that the code at the field is another one than `code`. Its set there has `code` alone,
+// for which -1 would have to be at least 0.
 fn other_line(alloc: Global, survey: &Survey, field: u32, code: u8) -> Result<Line, OutOfMemory>
     requires line { IsLine (other_line (shape_of survey.now.fields) field code) }
     requires field { has_field (code_fields (shape_of survey.now.fields)) field ≡ true }
@@ -105,7 +110,7 @@ fn other_line(alloc: Global, survey: &Survey, field: u32, code: u8) -> Result<Li
     Ok(Line::new(survey, sets, factors, -1, Relation::AtLeast))
 }
 
-/// The edits and one more line, numbered after them.
+/// The edits and one more line, which has the number after theirs.
 pub(crate) fn edits_with(
     alloc: Global,
     survey: &Survey,

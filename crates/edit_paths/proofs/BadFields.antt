@@ -1,4 +1,5 @@
-use Rattle.std.proofs.Common.{◌≡◌, ◌≢◌, ◌==◌, ℕ, suc, Bool, true, false, nat_lt, if◌then◌else◌, List, [], ◌∷◌, Option, Some, None, Result, Ok, Err, length, refl, sym, ap, ◌∙◌}
+use Rattle.std.proofs.Common.{◌≡◌, ◌≢◌, ◌==◌, ℕ, suc, Bool, true, false, nat_lt, if◌then◌else◌, List, [], ◌∷◌, Option, Some, None, Result, Ok, Err, length}
+use Rattle.std.proofs.Common.{refl, sym, ap, ◌∙◌}
 use Rattle.std.specs.List.{fold, position}
 use Rattle.edit_line.specs.Boxes.{are_whole}
 use Rattle.edit_line.specs.Shapes.{shape_of}
@@ -29,7 +30,8 @@ module _ (c : SearchCase) (path : List Bool) where
   no_lines i [] h = cc h
   no_lines i (d ∷ lines) h = at (asks_kept c path d.line) (fails_at d.line c.row) (no_lines (suc i) lines) h
     where
-      at : (asks : Bool) (r : Result Bool ℕ) → (first_failing c path (suc i) lines ≡ ClosedBad → ⊥) → (if asks then closed_by i r (first_failing c path (suc i) lines) else first_failing c path (suc i) lines) ≡ ClosedBad → ⊥
+      at : (asks : Bool) (r : Result Bool ℕ) → (first_failing c path (suc i) lines ≡ ClosedBad → ⊥)
+          → (if asks then closed_by i r (first_failing c path (suc i) lines) else first_failing c path (suc i) lines) ≡ ClosedBad → ⊥
       at true (Ok true) later h = cc h
       at true (Ok false) later h = later h
       at true (Err f) later h = cc h
@@ -37,7 +39,8 @@ module _ (c : SearchCase) (path : List Bool) where
 
   no_boxes : (lines : List Derived) (r : Result (List BoxFrom) LineFault) → state_with_boxes c path lines r ≡ ClosedBad → ⊥
   no_boxes lines (Err fault) h = cc h
-  no_boxes lines (Ok boxes) h = at (length path == number_count c) (position (λ (b : BoxFrom). are_whole (shape_of c.survey.fields) b.code_box.sets) (fold (boxes_after c path) boxes (treated_codes c path))) h
+  no_boxes lines (Ok boxes) h = at (length path == number_count c) (position (λ (b : BoxFrom). are_whole (shape_of c.survey.fields) b.code_box.sets)
+      (fold (boxes_after c path) boxes (treated_codes c path))) h
     where
       at : (b : Bool) (o : Option ℕ) → (if b then first_failing c path 0 lines else first_whole o) ≡ ClosedBad → ⊥
       at true o h = no_lines 0 lines h
@@ -59,4 +62,5 @@ module _ (c : SearchCase) (path : List Bool) where
       by : (b : Bool) → keeps_bad c.survey.fields c.row path ≡ b → b ≡ true
       by true bad = refl
       by false bad =
-          absurd (no_system (system_of c.edits (changed_numbers c path)) (sym (ap (λ b. if b then ClosedBad else state_with_system c path (system_of c.edits (changed_numbers c path))) bad) ∙ e))
+          absurd (no_system (system_of c.edits (changed_numbers c path))
+          (sym (ap (λ b. if b then ClosedBad else state_with_system c path (system_of c.edits (changed_numbers c path))) bad) ∙ e))

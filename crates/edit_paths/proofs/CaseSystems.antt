@@ -35,15 +35,19 @@ module _ (c : SearchCase) (is : IsCase c) where
     pub system-follows : (q : Point) → All (IsNumerical (shape_of c.survey.fields)) fields → AllHold (edit_lines c) q → AllHold (lines_of lines) q
     system-follows q numerical holds =
         subst (λ (ls : List LineParts). AllHold ls q) (sym plain)
-        (fold-holds (shape_of c.survey.fields) (lines_of start) fields q q start_over numerical (record { codes = λ i outside. refl; numbers = λ i outside. refl })
+        (fold-holds (shape_of c.survey.fields) (lines_of start) fields q q start_over numerical
+        (record { codes = λ i outside. refl; numbers = λ i outside. refl })
         ((start-same (shape_of c.survey.fields) c.edits start is.edits.edits refl q).1 holds))
 
     -- where the system's lines hold, some values at the fields make the edits hold
-    pub system-lifts : (p : Point) → AllHold (lines_of lines) p → (q : Point) × DiffersOnlyIn fields p q × ((i : ℕ) → q.code i ≡ p.code i) × AllHold (edit_lines c) q
+    pub system-lifts : (p : Point) → AllHold (lines_of lines) p → (q : Point) × DiffersOnlyIn fields p q × ((i : ℕ) → q.code i ≡ p.code i)
+        × AllHold (edit_lines c) q
     system-lifts p holds =
-        let (q, differs, codes, at_q) = fold-lifts (shape_of c.survey.fields) (lines_of start) fields p start_over (subst (λ (ls : List LineParts). AllHold ls p) plain holds) in
+        let (q, differs, codes, at_q) = fold-lifts (shape_of c.survey.fields) (lines_of start) fields p start_over
+        (subst (λ (ls : List LineParts). AllHold ls p) plain holds) in
         (q, differs, codes, (start-same (shape_of c.survey.fields) c.edits start is.edits.edits refl q).0 at_q)
 
     -- the fields are gone from the system's lines
     pub system-flat : (f : ℕ) → has_field fields f ≡ true → AreFlat f (lines_of lines)
-    system-flat f there = subst (λ (ls : List LineParts). AreFlat f ls) (sym plain) (fold-flat (shape_of c.survey.fields) (lines_of start) fields f start_over there)
+    system-flat f there = subst (λ (ls : List LineParts). AreFlat f ls) (sym plain) (fold-flat (shape_of c.survey.fields) (lines_of start) fields f start_over
+        there)

@@ -1,4 +1,5 @@
-use Rattle.std.proofs.Common.{◌≡◌, ◌&&◌, ◌⊎◌, inl, inr, ℕ, zero, suc, ◌+◌, ◌≤◌, nat_lt, Bool, true, false, if◌then◌else◌, List, [], ◌∷◌, ◌++◌, map, Option, Some, None, length, slice_get, append-nil, append_assoc, refl, sym, ap, ◌∙◌, subst, arith}
+use Rattle.std.proofs.Common.{◌≡◌, ◌&&◌, ◌⊎◌, inl, inr, ℕ, zero, suc, ◌+◌, ◌≤◌, nat_lt, Bool, true, false, if◌then◌else◌, List, [], ◌∷◌, ◌++◌, map, Option}
+use Rattle.std.proofs.Common.{Some, None, length, slice_get, append-nil, append_assoc, refl, sym, ap, ◌∙◌, subst, arith}
 use Rattle.std.specs.List.{AllByRecursion}
 use Rattle.std.proofs.lemmas.Bool.Decides.{Decides-eqb}
 use Rattle.std.proofs.lemmas.List.{map-append}
@@ -70,13 +71,21 @@ module _ (c : SearchCase) (is : IsCase c) (given : List LineParts) (usable : Lis
     usable_is : AreUsable (premises_at (tree_case c.survey given usable c.row None) path) c.edits
     usable_is e there =
         let (at, may) = are e there in
-        ap (λ b. if b then (slice_get given e.0 >>? (λ line. Some (proved.Line line))) else None) may ∙ ap (λ (o : Option LineParts). (o >>? (λ line. Some (proved.Line line)))) at
+        ap (λ b. if b then (slice_get given e.0 >>? (λ line. Some (proved.Line line))) else None) may
+        ∙ ap (λ (o : Option LineParts). (o >>? (λ line. Some (proved.Line line)))) at
 
     line-leaf : (weight : Option ℕ) (i : ℕ) → state_of c path ≡ ClosedLine i → IsValid weight path (why.Line (steps_to (line_history c path) i))
     line-leaf weight i e =
         let (line, closing) = closing-line c is path none given usable (kept_set c.survey.fields c.row path) (kept-number c is path none) usable_is i e in
-        let (whole, alone) = asks-whole c is path line closing.asks in
-        (line, closing.valid, (whole, true-both _ _ (only-kept c is path none given usable (kept_set c.survey.fields c.row path) (kept-number c is path none) usable_is line closing.over alone) (ap (λ r. (result_unwrap_or r false)) closing.fails)))
+        let (whole, alone) = asks-whole c is path line closing.asks in (
+          line,
+          closing.valid,
+          (
+            whole,
+            true-both _ _ (only-kept c is path none given usable (kept_set c.survey.fields c.row path) (kept-number c is path none)
+                usable_is line closing.over alone) (ap (λ r. (result_unwrap_or r false)) closing.fails),
+          ),
+        )
 
     box-leaf : (weight : Option ℕ) (i : ℕ) → state_of c path ≡ ClosedBox i → IsValid weight path (why.Box (steps_to (box_history c path) i))
     box-leaf weight i e =
@@ -95,33 +104,43 @@ module _ (c : SearchCase) (is : IsCase c) (given : List LineParts) (usable : Lis
   tip : (weight : Option ℕ) (path : List Bool) (w : LeafWhy) → length path ≤ field_count c → IsValid weight path w → IsTreeFrom weight path (leaf path w)
   tip weight path w fits valid = record { tree = Tip; paths = ap (λ (p : List Bool). p ∷ []) (sym (append-nil path)); depth = (fits, tt); each = (valid, tt) }
 
-  moved : (path : List Bool) (b : Bool) (rests : List (List Bool)) → map (λ (rest : List Bool). (path ++ b ∷ []) ++ rest) rests ≡ map (λ (rest : List Bool). path ++ rest) (map (λ (rest : List Bool). b ∷ rest) rests)
+  moved : (path : List Bool) (b : Bool) (rests : List (List Bool)) → map (λ (rest : List Bool). (path ++ b ∷ []) ++ rest) rests
+      ≡ map (λ (rest : List Bool). path ++ rest) (map (λ (rest : List Bool). b ∷ rest) rests)
   moved path b [] = refl
-  moved path b (rest ∷ rests) = ap (λ (p : List Bool). p ∷ map (λ (rest : List Bool). (path ++ b ∷ []) ++ rest) rests) (append_assoc path (b ∷ []) rest) ∙ ap (λ (ps : List (List Bool)). (path ++ b ∷ rest) ∷ ps) (moved path b rests)
+  moved path b (rest ∷ rests) = ap (λ (p : List Bool). p ∷ map (λ (rest : List Bool). (path ++ b ∷ []) ++ rest) rests) (append_assoc path (b ∷ []) rest)
+      ∙ ap (λ (ps : List (List Bool)). (path ++ b ∷ rest) ∷ ps) (moved path b rests)
 
-  fork : (weight : Option ℕ) (path : List Bool) (first second : List Leaf) → IsTreeFrom weight (kept_next path) first → IsTreeFrom weight (changed_next path) second → IsTreeFrom weight path (first ++ second)
+  fork : (weight : Option ℕ) (path : List Bool) (first second : List Leaf) → IsTreeFrom weight (kept_next path) first
+      → IsTreeFrom weight (changed_next path) second → IsTreeFrom weight path (first ++ second)
   fork weight path first second kept changed = record {
     tree = Fork kept.tree changed.tree;
     paths =
         map-append (λ (leaf : Leaf). leaf.path) first second
         ∙ ap (λ (ps : List (List Bool)). ps ++ map (λ (leaf : Leaf). leaf.path) second) (kept.paths ∙ moved path false (leaf_paths kept.tree))
-        ∙ ap (λ (ps : List (List Bool)). map (λ (rest : List Bool). path ++ rest) (map (λ (rest : List Bool). false ∷ rest) (leaf_paths kept.tree)) ++ ps) (changed.paths ∙ moved path true (leaf_paths changed.tree))
-        ∙ sym (map-append (λ (rest : List Bool). path ++ rest) (map (λ (rest : List Bool). false ∷ rest) (leaf_paths kept.tree)) (map (λ (rest : List Bool). true ∷ rest) (leaf_paths changed.tree)));
+        ∙ ap (λ (ps : List (List Bool)). map (λ (rest : List Bool). path ++ rest) (map (λ (rest : List Bool). false ∷ rest) (leaf_paths kept.tree)) ++ ps)
+        (changed.paths ∙ moved path true (leaf_paths changed.tree))
+        ∙ sym (map-append (λ (rest : List Bool). path ++ rest) (map (λ (rest : List Bool). false ∷ rest) (leaf_paths kept.tree))
+        (map (λ (rest : List Bool). true ∷ rest) (leaf_paths changed.tree)));
     depth = both-all (λ (leaf : Leaf). length leaf.path ≤ length c.survey.fields) first second kept.depth changed.depth;
     each = both-all (λ (leaf : Leaf). IsValidLeaf (tree_case c.survey given usable c.row weight) leaf.path leaf.why) first second kept.each changed.each;
   }
 
-  module _ (weight : Option ℕ) (taken : List (List Bool)) (each : (p : List Bool) → IsIn p taken → EndsNot c p) (bound : (p : List Bool) → IsIn p (reached_paths c) → (IsIn p taken → ⊥) → IsValid weight p why.Bound) where
+  module _ (weight : Option ℕ) (taken : List (List Bool)) (each : (p : List Bool) → IsIn p taken → EndsNot c p)
+      (bound : (p : List Bool) → IsIn p (reached_paths c) → (IsIn p taken → ⊥) → IsValid weight p why.Bound) where
     -- a path that is taken is closed, or leads on
-    closed-from : (path : List Bool) (below : List Leaf) → length path ≤ field_count c → IsIn path taken → (s : PathState) → state_of c path ≡ s → (s ≡ Open → IsTreeFrom weight path below) → IsTreeFrom weight path (leaves_by c path below s)
+    closed-from : (path : List Bool) (below : List Leaf) → length path ≤ field_count c → IsIn path taken → (s : PathState) → state_of c path ≡ s
+        → (s ≡ Open → IsTreeFrom weight path below) → IsTreeFrom weight path (leaves_by c path below s)
     closed-from path below fits known Open e open_tree = open_tree refl
     closed-from path below fits known ClosedBad e open_tree = tip weight path why.BadKept fits (is-bad c path e)
-    closed-from path below fits known (ClosedLine i) e open_tree = tip weight path _ fits (line-leaf path (not-bad c path (ClosedLine i) e (λ h. absurd (cc))) weight i e)
-    closed-from path below fits known (ClosedBox i) e open_tree = tip weight path _ fits (box-leaf path (not-bad c path (ClosedBox i) e (λ h. absurd (cc))) weight i e)
+    closed-from path below fits known (ClosedLine i) e open_tree = tip weight path _ fits (line-leaf path (not-bad c path (ClosedLine i) e (λ h. absurd (cc)))
+        weight i e)
+    closed-from path below fits known (ClosedBox i) e open_tree = tip weight path _ fits (box-leaf path (not-bad c path (ClosedBox i) e (λ h. absurd (cc)))
+        weight i e)
     closed-from path below fits known (Overflows event) e open_tree = absurd ((each path known).0 event e)
 
     -- the leaves from a reached path on are a valid tree
-    tree-from : (left : ℕ) (path : List Bool) → length path + left ≡ field_count c → IsIn path (reached_paths c) → IsTreeFrom weight path (leaves_from c taken left path)
+    tree-from : (left : ℕ) (path : List Bool) → length path + left ≡ field_count c → IsIn path (reached_paths c)
+        → IsTreeFrom weight path (leaves_from c taken left path)
     tree-from zero path sum there = by (has_path taken path) refl
       where
         by : (h : Bool) → has_path taken path ≡ h → IsTreeFrom weight path (if h then leaves_by c path [] (state_of c path) else leaf path why.Bound)
@@ -130,16 +149,20 @@ module _ (c : SearchCase) (is : IsCase c) (given : List LineParts) (usable : Lis
             (λ opened. absurd ((each path (in-has taken path h)).1 opened ((Decides-eqb (length path) (field_count c)).1 (omega (arith, sum)))))
         by false h = tip weight path why.Bound (omega (arith, sum)) (bound path there (λ known. cc (sym h ∙ has-in taken path known)))
     tree-from (suc left) path sum there =
-        by (has_path taken path) refl (λ h. tree-from left (kept_next path) (omega (arith, sum, longer path false)) h) (λ h. tree-from left (changed_next path) (omega (arith, sum, longer path true)) h)
+        by (has_path taken path) refl (λ h. tree-from left (kept_next path) (omega (arith, sum, longer path false)) h)
+        (λ h. tree-from left (changed_next path) (omega (arith, sum, longer path true)) h)
       where
         by : (h : Bool) → has_path taken path ≡ h
             → (IsIn (kept_next path) (reached_paths c) → IsTreeFrom weight (kept_next path) (leaves_from c taken left (kept_next path)))
             → (IsIn (changed_next path) (reached_paths c) → IsTreeFrom weight (changed_next path) (leaves_from c taken left (changed_next path)))
-            → IsTreeFrom weight path (if h then leaves_by c path (leaves_from c taken left (kept_next path) ++ leaves_from c taken left (changed_next path)) (state_of c path) else leaf path why.Bound)
+            → IsTreeFrom weight path (if h then leaves_by c path (leaves_from c taken left (kept_next path) ++ leaves_from c taken left (changed_next path))
+            (state_of c path) else leaf path why.Bound)
         by true h first second =
-            closed-from path (leaves_from c taken left (kept_next path) ++ leaves_from c taken left (changed_next path)) (omega (arith, sum)) (in-has taken path h) (state_of c path) refl
+            closed-from path (leaves_from c taken left (kept_next path) ++ leaves_from c taken left (changed_next path)) (omega (arith, sum))
+            (in-has taken path h) (state_of c path) refl
             (λ opened. fork weight path (leaves_from c taken left (kept_next path)) (leaves_from c taken left (changed_next path))
-            (first (next-reached c path false there (ap is_open opened) (omega (arith, sum)))) (second (next-reached c path true there (ap is_open opened) (omega (arith, sum)))))
+            (first (next-reached c path false there (ap is_open opened) (omega (arith, sum))))
+            (second (next-reached c path true there (ap is_open opened) (omega (arith, sum)))))
         by false h first second = tip weight path why.Bound (omega (arith, sum)) (bound path there (λ known. cc (sym h ∙ has-in taken path known)))
 
     tree-all : IsValidTree (tree_case c.survey given usable c.row weight) (certificate_of c taken)
@@ -152,21 +175,26 @@ module _ (c : SearchCase) (is : IsCase c) (given : List LineParts) (usable : Lis
         plain (path ∷ paths) = ap (λ (ps : List (List Bool)). path ∷ ps) (plain paths)
 
   -- the certificate of a contradiction is a valid tree without a weight
-  pub contradiction-tree : (budget : ℕ) (cert : Cert) → outcome_of c budget ≡ outcome.Contradictory cert → IsValidTree (tree_case c.survey given usable c.row None) cert.leaves
+  pub contradiction-tree : (budget : ℕ) (cert : Cert) → outcome_of c budget ≡ outcome.Contradictory cert
+      → IsValidTree (tree_case c.survey given usable c.row None) cert.leaves
   contradiction-tree budget cert e =
       subst (λ (leaves : List Leaf). IsValidTree (tree_case c.survey given usable c.row None) leaves) (sym (none-cert c budget [] (reached_paths c) cert e))
       (tree-all None (reached_paths c) (none-from c budget [] (reached_paths c) cert e) (λ p there other. absurd (other there)))
 
   -- that of a change is a valid tree with its weight
-  pub change-tree : (budget : ℕ) (path : List Bool) (weight : ℕ) (cert : Cert) → outcome_of c budget ≡ outcome.Change path weight cert → IsValidTree (tree_case c.survey given usable c.row (Some weight)) cert.leaves
+  pub change-tree : (budget : ℕ) (path : List Bool) (weight : ℕ) (cert : Cert) → outcome_of c budget ≡ outcome.Change path weight cert
+      → IsValidTree (tree_case c.survey given usable c.row (Some weight)) cert.leaves
   change-tree budget path weight cert e =
       let found = found-from c budget [] (reached_paths c) path weight cert e in
-      subst (λ (leaves : List Leaf). IsValidTree (tree_case c.survey given usable c.row (Some weight)) leaves) (sym found.cert_is) (by found (nat_lt 0 (path_weight c.survey.fields path)) refl)
+      subst (λ (leaves : List Leaf). IsValidTree (tree_case c.survey given usable c.row (Some weight)) leaves) (sym found.cert_is)
+      (by found (nat_lt 0 (path_weight c.survey.fields path)) refl)
     where
       by : (found : FoundAt c [] (reached_paths c) path weight cert) → (b : Bool) → nat_lt 0 (path_weight c.survey.fields path) ≡ b
           → IsValidTree (tree_case c.survey given usable c.row (Some weight)) (certificate_of c (if b then [] ++ found.before else []))
       by found true some =
-          tree-all (Some weight) found.before found.not_before (λ p there other. bound p (in-either p found.before (path ∷ found.after) (subst (λ (ps : List (List Bool)). IsIn p ps) found.paths_are there)) other)
+          tree-all (Some weight) found.before found.not_before
+          (λ p there other. bound p (in-either p found.before (path ∷ found.after) (subst (λ (ps : List (List Bool)). IsIn p ps) found.paths_are there))
+          other)
         where
           lighter : (p : List Bool) → is_before c.survey.fields path p ≡ true → weight ≤ path_weight c.survey.fields p
           lighter p h = elim (tells (path_weight c.survey.fields path) (path_weight c.survey.fields p) (is_first path p) h) [

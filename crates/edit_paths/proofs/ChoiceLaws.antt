@@ -1,4 +1,5 @@
-use Rattle.std.proofs.Common.{Bool, List, None, Some, [], ap, append-nil, append_assoc, arith, drop, false, if◌then◌else◌, inl, inr, length, map, nat_lt, not, refl, slice_index_or, subst, suc, sym, take, true, zero, ℕ, ◌++◌, ◌+◌, ◌<◌, ◌==◌, ◌||◌, ◌∙◌, ◌∷◌, ◌≡◌, ◌≤◌}
+use Rattle.std.proofs.Common.{Bool, List, None, Some, [], ap, append-nil, append_assoc, arith, drop, false, if◌then◌else◌, inl, inr, length, map, nat_lt, not}
+use Rattle.std.proofs.Common.{refl, slice_index_or, subst, suc, sym, take, true, zero, ℕ, ◌++◌, ◌+◌, ◌<◌, ◌==◌, ◌||◌, ◌∙◌, ◌∷◌, ◌≡◌, ◌≤◌}
 use Rattle.std.proofs.lemmas.Bool.Decides.{Decides-eqb}
 use Rattle.std.proofs.Math.Seq.{take-suc}
 use Rattle.std.proofs.lemmas.List.{length-take-le, length-map, take-append-drop}
@@ -49,14 +50,17 @@ word-at g (i ∷ fields) f d there = by (i == f) refl (word-at g fields f d) the
     by false e rest h = rest h
 
 -- where each field that the first changes is one that the second does, and the second comes first, they are the same
-same-word : (a b : List Bool) → length a ≡ length b → ((k : ℕ) → k < length a → slice_index_or a k false ≡ true → slice_index_or b k false ≡ true) → is_first b a ≡ true → a ≡ b
+same-word : (a b : List Bool) → length a ≡ length b → ((k : ℕ) → k < length a → slice_index_or a k false ≡ true → slice_index_or b k false ≡ true)
+    → is_first b a ≡ true → a ≡ b
 same-word [] [] same each first = refl
 same-word [] (y ∷ b) same each first = absurd (omega (arith, same))
 same-word (x ∷ a) [] same each first = absurd (omega (arith, same))
-same-word (false ∷ a) (false ∷ b) same each first = ap (λ (p : List Bool). false ∷ p) (same-word a b (omega (arith, same)) (λ k below. each (suc k) (omega arith)) first)
+same-word (false ∷ a) (false ∷ b) same each first =
+    ap (λ (p : List Bool). false ∷ p) (same-word a b (omega (arith, same)) (λ k below. each (suc k) (omega arith)) first)
 same-word (false ∷ a) (true ∷ b) same each first = absurd (cc)
 same-word (true ∷ a) (false ∷ b) same each first = absurd (cc (each 0 (omega arith) refl))
-same-word (true ∷ a) (true ∷ b) same each first = ap (λ (p : List Bool). true ∷ p) (same-word a b (omega (arith, same)) (λ k below. each (suc k) (omega arith)) first)
+same-word (true ∷ a) (true ∷ b) same each first = ap (λ (p : List Bool). true ∷ p) (same-word a b (omega (arith, same)) (λ k below. each (suc k) (omega arith))
+    first)
 
 -- ---- the end of a search
 
@@ -76,11 +80,13 @@ pub record FoundAt (c : SearchCase) (taken paths : List (List Bool)) (path : Lis
   pub cert_is : cert.leaves ≡ certificate_of c (if nat_lt 0 (path_weight c.survey.fields path) then taken ++ before else [])
 
 module _ (c : SearchCase) (budget : ℕ) where
-  in_first : (path x : List Bool) (paths : List (List Bool)) → EndsNot c path → ((p : List Bool) → IsIn p paths → EndsNot c p) → IsIn x (path ∷ paths) → EndsNot c x
+  in_first : (path x : List Bool) (paths : List (List Bool)) → EndsNot c path → ((p : List Bool) → IsIn p paths → EndsNot c p) → IsIn x (path ∷ paths)
+      → EndsNot c x
   in_first path x paths here rest (inl same) = subst (λ (p : List Bool). EndsNot c p) (sym same) here
   in_first path x paths here rest (inr there) = rest x there
 
-  later : (taken : List (List Bool)) (path : List Bool) (paths : List (List Bool)) (chosen : List Bool) (weight : ℕ) (cert : Cert) → EndsNot c path → FoundAt c (taken ++ path ∷ []) paths chosen weight cert → FoundAt c taken (path ∷ paths) chosen weight cert
+  later : (taken : List (List Bool)) (path : List Bool) (paths : List (List Bool)) (chosen : List Bool) (weight : ℕ) (cert : Cert) → EndsNot c path
+      → FoundAt c (taken ++ path ∷ []) paths chosen weight cert → FoundAt c taken (path ∷ paths) chosen weight cert
   later taken path paths chosen weight cert here found = record {
     before = path ∷ found.before;
     after = found.after;
@@ -89,22 +95,29 @@ module _ (c : SearchCase) (budget : ℕ) where
     open_there = found.open_there;
     complete = found.complete;
     weight_is = found.weight_is;
-    cert_is = found.cert_is ∙ ap (λ (ps : List (List Bool)). certificate_of c (if nat_lt 0 (path_weight c.survey.fields chosen) then ps else [])) (append_assoc taken (path ∷ []) found.before);
+    cert_is = found.cert_is ∙ ap (λ (ps : List (List Bool)). certificate_of c (if nat_lt 0 (path_weight c.survey.fields chosen) then ps else []))
+        (append_assoc taken (path ∷ []) found.before);
   }
 
-  pub found-from : (taken paths : List (List Bool)) (chosen : List Bool) (weight : ℕ) (cert : Cert) → outcome_from c budget taken paths ≡ outcome.Change chosen weight cert → FoundAt c taken paths chosen weight cert
+  pub found-from : (taken paths : List (List Bool)) (chosen : List Bool) (weight : ℕ) (cert : Cert) → outcome_from c budget taken paths
+      ≡ outcome.Change chosen weight cert → FoundAt c taken paths chosen weight cert
   found-from taken [] chosen weight cert e = absurd (cc)
   found-from taken (path ∷ paths) chosen weight cert e =
       by (nat_lt budget (work_of_all c taken + work_of c path)) (state_of c path) refl (λ h. found-from (taken ++ path ∷ []) paths chosen weight cert h) e
     where
-      by : (over : Bool) (s : PathState) → state_of c path ≡ s → (outcome_from c budget (taken ++ path ∷ []) paths ≡ outcome.Change chosen weight cert → FoundAt c (taken ++ path ∷ []) paths chosen weight cert)
-          → (unwrap_or (if over then Some (outcome.Budget path (work_of_all c taken)) else end_by c taken path s) (outcome_from c budget (taken ++ path ∷ []) paths)) ≡ outcome.Change chosen weight cert → FoundAt c taken (path ∷ paths) chosen weight cert
+      by : (over : Bool) (s : PathState) → state_of c path ≡ s → (outcome_from c budget (taken ++ path ∷ []) paths ≡ outcome.Change chosen weight cert
+          → FoundAt c (taken ++ path ∷ []) paths chosen weight cert)
+          → (unwrap_or (if over then Some (outcome.Budget path (work_of_all c taken)) else end_by c taken path s)
+          (outcome_from c budget (taken ++ path ∷ []) paths)) ≡ outcome.Change chosen weight cert → FoundAt c taken (path ∷ paths) chosen weight cert
       by true s is rest h = absurd (cc)
       by false (Overflows event) is rest h = absurd (cc)
       by false Open is rest h = at (is_complete c path) refl rest h
         where
-          at : (full : Bool) → is_complete c path ≡ full → (outcome_from c budget (taken ++ path ∷ []) paths ≡ outcome.Change chosen weight cert → FoundAt c (taken ++ path ∷ []) paths chosen weight cert)
-              → (unwrap_or (if full then Some (outcome.Change path (path_weight c.survey.fields path) (record { leaves = certificate_of c (if nat_lt 0 (path_weight c.survey.fields path) then taken else []) })) else None) (outcome_from c budget (taken ++ path ∷ []) paths)) ≡ outcome.Change chosen weight cert
+          at : (full : Bool) → is_complete c path ≡ full → (outcome_from c budget (taken ++ path ∷ []) paths ≡ outcome.Change chosen weight cert
+              → FoundAt c (taken ++ path ∷ []) paths chosen weight cert)
+              → (unwrap_or (if full then Some (outcome.Change path (path_weight c.survey.fields path)
+              (record { leaves = certificate_of c (if nat_lt 0 (path_weight c.survey.fields path) then taken else []) })) else None)
+              (outcome_from c budget (taken ++ path ∷ []) paths)) ≡ outcome.Change chosen weight cert
               → FoundAt c taken (path ∷ paths) chosen weight cert
           at true full rest h =
               let same : path ≡ chosen = cc in
@@ -119,48 +132,79 @@ module _ (c : SearchCase) (budget : ℕ) where
                 complete = ap (λ (p : List Bool). is_complete c p) (sym same) ∙ full;
                 weight_is = sym weighs ∙ ap (λ (p : List Bool). path_weight c.survey.fields p) same;
                 cert_is =
-                    ap (λ (d : Cert). d.leaves) (sym certified) ∙ ap (λ (p : List Bool). certificate_of c (if nat_lt 0 (path_weight c.survey.fields p) then taken else [])) same
-                    ∙ ap (λ (ps : List (List Bool)). certificate_of c (if nat_lt 0 (path_weight c.survey.fields chosen) then ps else [])) (sym (append-nil taken));
+                    ap (λ (d : Cert). d.leaves) (sym certified)
+                    ∙ ap (λ (p : List Bool). certificate_of c (if nat_lt 0 (path_weight c.survey.fields p) then taken else [])) same
+                    ∙ ap (λ (ps : List (List Bool)). certificate_of c (if nat_lt 0 (path_weight c.survey.fields chosen) then ps else []))
+                    (sym (append-nil taken));
               }
-          at false full rest h = later taken path paths chosen weight cert (λ event is_over. absurd (cc (sym is ∙ is_over)), λ opened whole. cc (sym full ∙ whole)) (rest h)
-      by false ClosedBad is rest h = later taken path paths chosen weight cert (λ event is_over. absurd (cc (sym is ∙ is_over)), λ opened whole. absurd (cc (sym is ∙ opened))) (rest h)
-      by false (ClosedLine i) is rest h = later taken path paths chosen weight cert (λ event is_over. absurd (cc (sym is ∙ is_over)), λ opened whole. absurd (cc (sym is ∙ opened))) (rest h)
-      by false (ClosedBox i) is rest h = later taken path paths chosen weight cert (λ event is_over. absurd (cc (sym is ∙ is_over)), λ opened whole. absurd (cc (sym is ∙ opened))) (rest h)
+          at false full rest h = later taken path paths chosen weight cert (
+            λ event is_over. absurd (cc (sym is ∙ is_over)),
+            λ opened whole. cc (sym full ∙ whole),
+          ) (rest h)
+      by false ClosedBad is rest h = later taken path paths chosen weight cert (
+        λ event is_over. absurd (cc (sym is ∙ is_over)),
+        λ opened whole. absurd (cc (sym is ∙ opened)),
+      ) (rest h)
+      by false (ClosedLine i) is rest h = later taken path paths chosen weight cert (
+        λ event is_over. absurd (cc (sym is ∙ is_over)),
+        λ opened whole. absurd (cc (sym is ∙ opened)),
+      ) (rest h)
+      by false (ClosedBox i) is rest h = later taken path paths chosen weight cert (
+        λ event is_over. absurd (cc (sym is ∙ is_over)),
+        λ opened whole. absurd (cc (sym is ∙ opened)),
+      ) (rest h)
 
   -- a search that finds a contradiction ends at no path
-  pub none-from : (taken paths : List (List Bool)) (cert : Cert) → outcome_from c budget taken paths ≡ outcome.Contradictory cert → (p : List Bool) → IsIn p paths → EndsNot c p
+  pub none-from : (taken paths : List (List Bool)) (cert : Cert) → outcome_from c budget taken paths ≡ outcome.Contradictory cert → (p : List Bool)
+      → IsIn p paths → EndsNot c p
   none-from taken [] cert e p none = absurd none
   none-from taken (path ∷ paths) cert e p there =
       by (nat_lt budget (work_of_all c taken + work_of c path)) (state_of c path) refl (λ h. none-from (taken ++ path ∷ []) paths cert h) e
     where
-      by : (over : Bool) (s : PathState) → state_of c path ≡ s → (outcome_from c budget (taken ++ path ∷ []) paths ≡ outcome.Contradictory cert → (p : List Bool) → IsIn p paths → EndsNot c p)
-          → (unwrap_or (if over then Some (outcome.Budget path (work_of_all c taken)) else end_by c taken path s) (outcome_from c budget (taken ++ path ∷ []) paths)) ≡ outcome.Contradictory cert → EndsNot c p
+      by : (over : Bool) (s : PathState) → state_of c path ≡ s → (outcome_from c budget (taken ++ path ∷ []) paths ≡ outcome.Contradictory cert
+          → (p : List Bool) → IsIn p paths → EndsNot c p)
+          → (unwrap_or (if over then Some (outcome.Budget path (work_of_all c taken)) else end_by c taken path s)
+          (outcome_from c budget (taken ++ path ∷ []) paths)) ≡ outcome.Contradictory cert → EndsNot c p
       by true s is rest h = absurd (cc)
       by false (Overflows event) is rest h = absurd (cc)
       by false Open is rest h = at (is_complete c path) refl rest h
         where
-          at : (full : Bool) → is_complete c path ≡ full → (outcome_from c budget (taken ++ path ∷ []) paths ≡ outcome.Contradictory cert → (p : List Bool) → IsIn p paths → EndsNot c p)
-              → (unwrap_or (if full then Some (outcome.Change path (path_weight c.survey.fields path) (record { leaves = certificate_of c (if nat_lt 0 (path_weight c.survey.fields path) then taken else []) })) else None) (outcome_from c budget (taken ++ path ∷ []) paths)) ≡ outcome.Contradictory cert
+          at : (full : Bool) → is_complete c path ≡ full → (outcome_from c budget (taken ++ path ∷ []) paths ≡ outcome.Contradictory cert → (p : List Bool)
+              → IsIn p paths → EndsNot c p)
+              → (unwrap_or (if full then Some (outcome.Change path (path_weight c.survey.fields path)
+              (record { leaves = certificate_of c (if nat_lt 0 (path_weight c.survey.fields path) then taken else []) })) else None)
+              (outcome_from c budget (taken ++ path ∷ []) paths)) ≡ outcome.Contradictory cert
               → EndsNot c p
           at true full rest h = absurd (cc)
           at false full rest h = in_first path p paths (λ event is_over. absurd (cc (sym is ∙ is_over)), λ opened whole. cc (sym full ∙ whole)) (rest h) there
-      by false ClosedBad is rest h = in_first path p paths (λ event is_over. absurd (cc (sym is ∙ is_over)), λ opened whole. absurd (cc (sym is ∙ opened))) (rest h) there
-      by false (ClosedLine i) is rest h = in_first path p paths (λ event is_over. absurd (cc (sym is ∙ is_over)), λ opened whole. absurd (cc (sym is ∙ opened))) (rest h) there
-      by false (ClosedBox i) is rest h = in_first path p paths (λ event is_over. absurd (cc (sym is ∙ is_over)), λ opened whole. absurd (cc (sym is ∙ opened))) (rest h) there
+      by false ClosedBad is rest h = in_first path p paths (λ event is_over. absurd (cc (sym is ∙ is_over)), λ opened whole. absurd (cc (sym is ∙ opened)))
+          (rest h) there
+      by false (ClosedLine i) is rest h = in_first path p paths (λ event is_over. absurd (cc (sym is ∙ is_over)), λ opened whole. absurd (cc (sym is ∙ opened)))
+          (rest h) there
+      by false (ClosedBox i) is rest h = in_first path p paths (λ event is_over. absurd (cc (sym is ∙ is_over)), λ opened whole. absurd (cc (sym is ∙ opened)))
+          (rest h) there
 
-  pub none-cert : (taken paths : List (List Bool)) (cert : Cert) → outcome_from c budget taken paths ≡ outcome.Contradictory cert → cert.leaves ≡ certificate_of c (taken ++ paths)
-  none-cert taken [] cert e = let same : cert ≡ record { leaves = certificate_of c taken } = sym (cc) in ap (λ (d : Cert). d.leaves) same ∙ ap (λ (ps : List (List Bool)). certificate_of c ps) (sym (append-nil taken))
+  pub none-cert : (taken paths : List (List Bool)) (cert : Cert) → outcome_from c budget taken paths ≡ outcome.Contradictory cert → cert.leaves
+      ≡ certificate_of c (taken ++ paths)
+  none-cert taken [] cert e = let same : cert ≡ record { leaves = certificate_of c taken } = sym (cc) in ap (λ (d : Cert). d.leaves) same
+      ∙ ap (λ (ps : List (List Bool)). certificate_of c ps) (sym (append-nil taken))
   none-cert taken (path ∷ paths) cert e =
-      by (nat_lt budget (work_of_all c taken + work_of c path)) (state_of c path) (λ h. none-cert (taken ++ path ∷ []) paths cert h ∙ ap (λ (ps : List (List Bool)). certificate_of c ps) (append_assoc taken (path ∷ []) paths)) e
+      by (nat_lt budget (work_of_all c taken + work_of c path)) (state_of c path) (λ h. none-cert (taken ++ path ∷ []) paths cert h
+      ∙ ap (λ (ps : List (List Bool)). certificate_of c ps) (append_assoc taken (path ∷ []) paths)) e
     where
-      by : (over : Bool) (s : PathState) → (outcome_from c budget (taken ++ path ∷ []) paths ≡ outcome.Contradictory cert → cert.leaves ≡ certificate_of c (taken ++ path ∷ paths))
-          → (unwrap_or (if over then Some (outcome.Budget path (work_of_all c taken)) else end_by c taken path s) (outcome_from c budget (taken ++ path ∷ []) paths)) ≡ outcome.Contradictory cert → cert.leaves ≡ certificate_of c (taken ++ path ∷ paths)
+      by : (over : Bool) (s : PathState) → (outcome_from c budget (taken ++ path ∷ []) paths ≡ outcome.Contradictory cert → cert.leaves
+          ≡ certificate_of c (taken ++ path ∷ paths))
+          → (unwrap_or (if over then Some (outcome.Budget path (work_of_all c taken)) else end_by c taken path s)
+          (outcome_from c budget (taken ++ path ∷ []) paths)) ≡ outcome.Contradictory cert → cert.leaves ≡ certificate_of c (taken ++ path ∷ paths)
       by true s rest h = absurd (cc)
       by false (Overflows event) rest h = absurd (cc)
       by false Open rest h = at (is_complete c path) rest h
         where
-          at : (full : Bool) → (outcome_from c budget (taken ++ path ∷ []) paths ≡ outcome.Contradictory cert → cert.leaves ≡ certificate_of c (taken ++ path ∷ paths))
-              → (unwrap_or (if full then Some (outcome.Change path (path_weight c.survey.fields path) (record { leaves = certificate_of c (if nat_lt 0 (path_weight c.survey.fields path) then taken else []) })) else None) (outcome_from c budget (taken ++ path ∷ []) paths)) ≡ outcome.Contradictory cert
+          at : (full : Bool) → (outcome_from c budget (taken ++ path ∷ []) paths ≡ outcome.Contradictory cert → cert.leaves
+              ≡ certificate_of c (taken ++ path ∷ paths))
+              → (unwrap_or (if full then Some (outcome.Change path (path_weight c.survey.fields path)
+              (record { leaves = certificate_of c (if nat_lt 0 (path_weight c.survey.fields path) then taken else []) })) else None)
+              (outcome_from c budget (taken ++ path ∷ []) paths)) ≡ outcome.Contradictory cert
               → cert.leaves ≡ certificate_of c (taken ++ path ∷ paths)
           at true rest h = absurd (cc)
           at false rest h = rest h
@@ -181,7 +225,8 @@ module _ (c : SearchCase) (is : IsCase c) (q : Point) (meets : Meets c q) where
   prefix-agrees : (k : ℕ) → AgreesAlong c (take k (word_of c.survey c.row q)) q
   prefix-agrees k f there kept =
       undo (differs_from (value_of c.row f) q f)
-      (ap not (sym (word-at (λ f. differs_from (value_of c.row f) q f) (path_order c.survey.fields) f true there)) ∙ taken-kept (word_of c.survey c.row q) k (path_place c.survey.fields f) kept)
+      (ap not (sym (word-at (λ f. differs_from (value_of c.row f) q f) (path_order c.survey.fields) f true there))
+      ∙ taken-kept (word_of c.survey c.row q) k (path_place c.survey.fields f) kept)
     where
       undo : (b : Bool) → not b ≡ true → b ≡ false
       undo true h = absurd (cc)
@@ -201,14 +246,16 @@ module _ (c : SearchCase) (is : IsCase c) (q : Point) (meets : Meets c q) where
       by (ClosedBox i) e = absurd (closed (ClosedBox i) e refl)
       by (Overflows event) e = absurd (ends.0 event e)
 
-  module _ (before : List (List Bool)) (each : (p : List Bool) → IsIn p before → EndsNot c p) (within : (k : ℕ) → IsIn (take k (word_of c.survey c.row q)) (reached_paths c) → IsIn (take k (word_of c.survey c.row q)) before) where
+  module _ (before : List (List Bool)) (each : (p : List Bool) → IsIn p before → EndsNot c p)
+      (within : (k : ℕ) → IsIn (take k (word_of c.survey c.row q)) (reached_paths c) → IsIn (take k (word_of c.survey c.row q)) before) where
     -- each prefix is reached
     prefix-reached : (k : ℕ) → k ≤ field_count c → IsIn (take k (word_of c.survey c.row q)) (reached_paths c)
     prefix-reached zero few = subst (λ (p : List Bool). IsIn p (reached_paths c)) (refl) (empty-reached c)
     prefix-reached (suc k) few =
         let there = prefix-reached k (omega arith) in
         subst (λ (p : List Bool). IsIn p (reached_paths c)) (sym (take-suc (word_of c.survey c.row q) k false (omega (arith, few, word-length))))
-        (next-reached c (take k (word_of c.survey c.row q)) (slice_index_or (word_of c.survey c.row q) k false) there (ap is_open (prefix-open k (each (take k (word_of c.survey c.row q)) (within k there))))
+        (next-reached c (take k (word_of c.survey c.row q)) (slice_index_or (word_of c.survey c.row q) k false) there
+        (ap is_open (prefix-open k (each (take k (word_of c.survey c.row q)) (within k there))))
         (omega (arith, few, length-take-le k (word_of c.survey c.row q) (omega (arith, few, word-length)))))
 
     -- so some path ends the search
@@ -224,7 +271,8 @@ contradictory c is budget cert e p meets = word-ends c is p meets (reached_paths
 -- ---- the choice
 
 module _ (c : SearchCase) (is : IsCase c) where
-  pub sorted-after : (before : List (List Bool)) (path z : List Bool) (after : List (List Bool)) → AreInOrder (is_before c.survey.fields) (before ++ path ∷ after) → IsIn z after → is_before c.survey.fields path z ≡ true
+  pub sorted-after : (before : List (List Bool)) (path z : List Bool) (after : List (List Bool))
+      → AreInOrder (is_before c.survey.fields) (before ++ path ∷ after) → IsIn z after → is_before c.survey.fields path z ≡ true
   sorted-after [] path z after sorted there = sorted.0 z there
   sorted-after (x ∷ before) path z after sorted there = sorted-after before path z after sorted.1 there
 
@@ -243,7 +291,8 @@ module _ (c : SearchCase) (is : IsCase c) where
             after_path : (k : ℕ) → is_before c.survey.fields path (take k (word_of c.survey c.row q)) ≡ true → ⊥
             after_path k h =
                 cc (sym e ∙ before-chain c path (take k (word_of c.survey c.row q)) (word_of c.survey c.row q) h
-                (subst (λ (p : List Bool). is_before c.survey.fields (take k (word_of c.survey c.row q)) p ≡ true) (take-append-drop k (word_of c.survey c.row q)) (before-extends c (take k (word_of c.survey c.row q)) (drop k (word_of c.survey c.row q)))))
+                (subst (λ (p : List Bool). is_before c.survey.fields (take k (word_of c.survey c.row q)) p ≡ true)
+                (take-append-drop k (word_of c.survey c.row q)) (before-extends c (take k (word_of c.survey c.row q)) (drop k (word_of c.survey c.row q)))))
 
             itself : is_before c.survey.fields path path ≡ true
             itself = own (is_before c.survey.fields path path) refl
@@ -253,34 +302,41 @@ module _ (c : SearchCase) (is : IsCase c) where
                 own false h = before-total c path path h
 
             within : (k : ℕ) → IsIn (take k (word_of c.survey c.row q)) (reached_paths c) → IsIn (take k (word_of c.survey c.row q)) found.before
-            within k there = elim (in-either (take k (word_of c.survey c.row q)) found.before (path ∷ found.after) (subst (λ (ps : List (List Bool)). IsIn (take k (word_of c.survey c.row q)) ps) found.paths_are there)) [
-              | inl at ↦ at
-              | inr at ↦ elim at [
-                | inl same ↦ absurd (after_path k (subst (λ (p : List Bool). is_before c.survey.fields path p ≡ true) (sym same) itself))
-                | inr late ↦ absurd (after_path k (sorted-after found.before path (take k (word_of c.survey c.row q)) found.after (subst (λ (ps : List (List Bool)). AreInOrder (is_before c.survey.fields) ps) found.paths_are (reached-sorted c)) late))
-              ]
-            ]
+            within k there = elim (in-either (take k (word_of c.survey c.row q)) found.before (path ∷ found.after)
+                (subst (λ (ps : List (List Bool)). IsIn (take k (word_of c.survey c.row q)) ps) found.paths_are there)) [
+                  | inl at ↦ at
+                  | inr at ↦ elim at [
+                    | inl same ↦ absurd (after_path k (subst (λ (p : List Bool). is_before c.survey.fields path p ≡ true) (sym same) itself))
+                    | inr late ↦ absurd (after_path k (sorted-after found.before path (take k (word_of c.survey c.row q)) found.after
+                        (subst (λ (ps : List (List Bool)). AreInOrder (is_before c.survey.fields) ps) found.paths_are (reached-sorted c)) late))
+                  ]
+                ]
 
     -- a point that has the record's values at the path's kept fields has the path as its word
     has-word : (q : Point) → Meets c q → AgreesAlong c path q → word_of c.survey c.row q ≡ path
     has-word q meets agrees =
-        elim (tells (path_weight c.survey.fields path) (path_weight c.survey.fields (word_of c.survey c.row q)) (is_first path (word_of c.survey c.row q)) (comes-first q meets)) [
+        elim (tells (path_weight c.survey.fields path) (path_weight c.survey.fields (word_of c.survey c.row q)) (is_first path (word_of c.survey c.row q))
+        (comes-first q meets)) [
           | inl less ↦ absurd (omega (arith, less, no_more))
           | inr both ↦ same-word (word_of c.survey c.row q) path (word-length c is q meets ∙ sym full) letters both.1
         ]
       where
-        changed : (f : ℕ) → has_field (path_order c.survey.fields) f ≡ true → changes c.survey.fields (word_of c.survey c.row q) f ≡ true → changes c.survey.fields path f ≡ true
+        changed : (f : ℕ) → has_field (path_order c.survey.fields) f ≡ true → changes c.survey.fields (word_of c.survey c.row q) f ≡ true
+            → changes c.survey.fields path f ≡ true
         changed f there h = by (changes c.survey.fields path f) refl
           where
             by : (b : Bool) → changes c.survey.fields path f ≡ b → b ≡ true
             by true e = refl
             by false e =
-                absurd (cc (sym (agrees f there (all-treated c path full f there e)) ∙ sym (word-at (λ f. differs_from (value_of c.row f) q f) (path_order c.survey.fields) f false there) ∙ h))
+                absurd (cc (sym (agrees f there (all-treated c path full f there e)) ∙ sym
+                (word-at (λ f. differs_from (value_of c.row f) q f) (path_order c.survey.fields) f false there) ∙ h))
 
         no_more : path_weight c.survey.fields (word_of c.survey c.row q) ≤ path_weight c.survey.fields path
-        no_more = sum-less (weight_at c.survey.fields) (changes c.survey.fields (word_of c.survey c.row q)) (changes c.survey.fields path) (path_order c.survey.fields) (λ f at h. changed f (there-has f (path_order c.survey.fields) at) h)
+        no_more = sum-less (weight_at c.survey.fields) (changes c.survey.fields (word_of c.survey c.row q)) (changes c.survey.fields path)
+            (path_order c.survey.fields) (λ f at h. changed f (there-has f (path_order c.survey.fields) at) h)
 
-        letters : (k : ℕ) → k < length (word_of c.survey c.row q) → slice_index_or (word_of c.survey c.row q) k false ≡ true → slice_index_or path k false ≡ true
+        letters : (k : ℕ) → k < length (word_of c.survey c.row q) → slice_index_or (word_of c.survey c.row q) k false ≡ true → slice_index_or path k false
+            ≡ true
         letters k below h =
             let (f, there, place) = place-of c k (omega (arith, below, word-length c is q meets)) in
             ap (λ i. slice_index_or path i false) (sym place) ∙ changed f there (ap (λ i. slice_index_or (word_of c.survey c.row q) i false) place ∙ h)
@@ -292,5 +348,7 @@ module _ (c : SearchCase) (is : IsCase c) where
     }
 
 -- the path of a change is the choice, and the weight is its own
-pub change-choice : (c : SearchCase) → IsCase c → (budget : ℕ) (path : List Bool) (weight : ℕ) (cert : Cert) → outcome_of c budget ≡ outcome.Change path weight cert → IsChoice c path × (weight ≡ path_weight c.survey.fields path)
-change-choice c is budget path weight cert e = let found = found-from c budget [] (reached_paths c) path weight cert e in (found-choice c is path weight cert found, found.weight_is)
+pub change-choice : (c : SearchCase) → IsCase c → (budget : ℕ) (path : List Bool) (weight : ℕ) (cert : Cert) → outcome_of c budget
+    ≡ outcome.Change path weight cert → IsChoice c path × (weight ≡ path_weight c.survey.fields path)
+change-choice c is budget path weight cert e = let found = found-from c budget [] (reached_paths c) path weight cert e in
+    (found-choice c is path weight cert found, found.weight_is)

@@ -1,4 +1,5 @@
-use Rattle.std.proofs.Common.{◌≡◌, ◌++◌, inl, inr, ℕ, zero, suc, ◌<◌, ◌||◌, not, Bool, true, false, if◌then◌else◌, List, [], ◌∷◌, length, append_assoc, length-append, slice_index_or, refl, sym, ap, ◌∙◌, subst, arith}
+use Rattle.std.proofs.Common.{◌≡◌, ◌++◌, inl, inr, ℕ, zero, suc, ◌<◌, ◌||◌, not, Bool, true, false, if◌then◌else◌, List, [], ◌∷◌, length, append_assoc}
+use Rattle.std.proofs.Common.{length-append, slice_index_or, refl, sym, ap, ◌∙◌, subst, arith}
 use Rattle.std.proofs.lemmas.Bool.Decides.{Decides-eqb}
 use Rattle.edit_model.specs.Corrections as corrections
 use Rattle.edit_model.specs.Corrections.{is_numerical, path_order}
@@ -27,13 +28,15 @@ pub place-own : (fields : List ℕ) (k : ℕ) → AreDistinct fields → k < len
 place-own [] k apart below = absurd (omega arith)
 place-own (f ∷ fields) zero apart below = ap (λ b. if b then 0 else suc (place_in fields f)) ((Decides-eqb f f).1 refl)
 place-own (f ∷ fields) (suc k) apart below =
-    ap (λ b. if b then 0 else suc (place_in fields (slice_index_or fields k 0))) (other-field f (slice_index_or fields k 0) fields apart.0 (index-in fields k (omega arith))) ∙ ap suc (place-own fields k apart.1 (omega arith))
+    ap (λ b. if b then 0 else suc (place_in fields (slice_index_or fields k 0))) (other-field f (slice_index_or fields k 0) fields apart.0
+    (index-in fields k (omega arith))) ∙ ap suc (place-own fields k apart.1 (omega arith))
 
 -- the place of the first field behind others
 place-behind : (first fields : List ℕ) (f : ℕ) → AreDistinct (first ++ f ∷ fields) → place_in (first ++ f ∷ fields) f ≡ length first
 place-behind [] fields f apart = ap (λ b. if b then 0 else suc (place_in fields f)) ((Decides-eqb f f).1 refl)
 place-behind (g ∷ first) fields f apart =
-    ap (λ b. if b then 0 else suc (place_in (first ++ f ∷ fields) f)) (other-field g f (first ++ f ∷ fields) apart.0 (in-right f first (f ∷ fields) (inl refl))) ∙ ap suc (place-behind first fields f apart.1)
+    ap (λ b. if b then 0 else suc (place_in (first ++ f ∷ fields) f)) (other-field g f (first ++ f ∷ fields) apart.0 (in-right f first (f ∷ fields) (inl refl)))
+    ∙ ap suc (place-behind first fields f apart.1)
 
 distinct-right : (first second : List ℕ) → AreDistinct (first ++ second) → AreDistinct second
 distinct-right [] second apart = apart
@@ -68,7 +71,8 @@ module _ (c : SearchCase) where
   kinds-distinct = subst (λ (fs : List ℕ). AreDistinct fs) (order-shape c.survey.fields) (order-distinct c.survey.fields)
 
   -- each place among the categorical fields is a field's
-  pub code-place : (k : ℕ) → k < length (code_fields (shape_of c.survey.fields)) → (f : ℕ) × IsIn f (code_fields (shape_of c.survey.fields)) × (k ≡ place_of (shape_of c.survey.fields) f)
+  pub code-place : (k : ℕ) → k < length (code_fields (shape_of c.survey.fields)) → (f : ℕ) × IsIn f (code_fields (shape_of c.survey.fields))
+      × (k ≡ place_of (shape_of c.survey.fields) f)
   code-place k below = (slice_index_or codes k 0, index-in codes k below, sym (place-own codes k (distinct-right numbers codes kinds-distinct) below))
 
   -- the fields stand in path order, from place k on
@@ -80,7 +84,8 @@ module _ (c : SearchCase) where
   placed-from first [] is = tt
   placed-from first (f ∷ fields) is = (
     ap (λ (fs : List ℕ). place_in fs f) is ∙ place-behind first fields f (subst (λ (fs : List ℕ). AreDistinct fs) is (order-distinct c.survey.fields)),
-    subst (λ n. Placed n fields) (length-append first (f ∷ []) ∙ omega arith) (placed-from (first ++ f ∷ []) fields (is ∙ sym (append_assoc first (f ∷ []) fields))),
+    subst (λ n. Placed n fields) (length-append first (f ∷ []) ∙ omega arith)
+        (placed-from (first ++ f ∷ []) fields (is ∙ sym (append_assoc first (f ∷ []) fields))),
   )
 
   pub fields-placed : Placed 0 (path_order c.survey.fields)

@@ -1,4 +1,5 @@
-use Rattle.std.proofs.Common.{◌≡◌, ◌||◌, ◌==◌, ◌++◌, ◌⊎◌, inl, inr, ℕ, zero, suc, ◌+◌, ◌<◌, ◌≤◌, Bool, true, false, not, if◌then◌else◌, List, [], ◌∷◌, length, length-append, slice_index_or, take, refl, sym, ap, ◌∙◌, subst, arith}
+use Rattle.std.proofs.Common.{◌≡◌, ◌||◌, ◌==◌, ◌++◌, ◌⊎◌, inl, inr, ℕ, zero, suc, ◌+◌, ◌<◌, ◌≤◌, Bool, true, false, not, if◌then◌else◌, List, [], ◌∷◌, length}
+use Rattle.std.proofs.Common.{length-append, slice_index_or, take, refl, sym, ap, ◌∙◌, subst, arith}
 use Rattle.std.proofs.Math.Seq.{get_or-append_seam}
 use Rattle.edit_model.specs.Corrections.{path_order}
 use Rattle.edit_model.specs.Corrections as corrections
@@ -18,13 +19,15 @@ use Rattle.edit_paths.specs.Paths.{field_count, number_count, treats}
 
 -- the numerical fields of the shape, and then its categorical ones
 pub order-shape : (fields : List Field) → path_order fields ≡ number_fields (shape_of fields) ++ code_fields (shape_of fields)
-order-shape fields = ap (λ (fs : List ℕ). fs ++ corrections.code_fields fields) (sym (number_fields-same fields)) ∙ ap (λ (fs : List ℕ). number_fields (shape_of fields) ++ fs) (sym (code_fields-same fields))
+order-shape fields = ap (λ (fs : List ℕ). fs ++ corrections.code_fields fields) (sym (number_fields-same fields))
+    ∙ ap (λ (fs : List ℕ). number_fields (shape_of fields) ++ fs) (sym (code_fields-same fields))
 
 place-left : (i : ℕ) (first second : List ℕ) → has_field first i ≡ true → place_in (first ++ second) i < length first
 place-left i [] second h = absurd (cc)
 place-left i (j ∷ first) second h = by (j == i) (place-left i first second) h
   where
-    by : (b : Bool) → (has_field first i ≡ true → place_in (first ++ second) i < length first) → (b || has_field first i) ≡ true → (if b then 0 else suc (place_in (first ++ second) i)) < suc (length first)
+    by : (b : Bool) → (has_field first i ≡ true → place_in (first ++ second) i < length first) → (b || has_field first i) ≡ true
+        → (if b then 0 else suc (place_in (first ++ second) i)) < suc (length first)
     by true rest h = omega arith
     by false rest h = let below = rest h in omega arith
 
@@ -41,7 +44,8 @@ module _ (c : SearchCase) where
   pub code-field : (f : ℕ) → has_field (code_fields (shape_of c.survey.fields)) f ≡ true → has_field (path_order c.survey.fields) f ≡ true
   code-field f h = ap (λ (fs : List ℕ). has_field fs f) (order-shape c.survey.fields) ∙ has-right f numbers codes h
 
-  pub either-field : (f : ℕ) → has_field (path_order c.survey.fields) f ≡ true → (has_field (number_fields (shape_of c.survey.fields)) f ≡ true) ⊎ (has_field (code_fields (shape_of c.survey.fields)) f ≡ true)
+  pub either-field : (f : ℕ) → has_field (path_order c.survey.fields) f ≡ true → (has_field (number_fields (shape_of c.survey.fields)) f ≡ true)
+      ⊎ (has_field (code_fields (shape_of c.survey.fields)) f ≡ true)
   either-field f h = by (has_field numbers f) refl (sym (ap (λ (fs : List ℕ). has_field fs f) (order-shape c.survey.fields) ∙ has-append f numbers codes) ∙ h)
     where
       by : (b : Bool) → has_field (number_fields (shape_of c.survey.fields)) f ≡ b → (b || has_field (code_fields (shape_of c.survey.fields)) f) ≡ true
@@ -103,11 +107,14 @@ module _ (c : SearchCase) (path : List Bool) where
   within-kept f below unchanged = ap not (letter-there path (path_place c.survey.fields f) below ∙ unchanged)
 
   -- a path that treats all fields treats each
-  pub all-treated : length path ≡ field_count c → (f : ℕ) → has_field (path_order c.survey.fields) f ≡ true → changes c.survey.fields path f ≡ false → keeps c.survey.fields path f ≡ true
-  all-treated complete f there unchanged = within-kept f (omega (arith, complete, order-length c.survey.fields, place-within (path_order c.survey.fields) f there)) unchanged
+  pub all-treated : length path ≡ field_count c → (f : ℕ) → has_field (path_order c.survey.fields) f ≡ true → changes c.survey.fields path f ≡ false
+      → keeps c.survey.fields path f ≡ true
+  all-treated complete f there unchanged =
+      within-kept f (omega (arith, complete, order-length c.survey.fields, place-within (path_order c.survey.fields) f there)) unchanged
 
   -- and one that treats all numerical fields those
-  pub numbers-treated : number_count c ≤ length path → (f : ℕ) → has_field (number_fields (shape_of c.survey.fields)) f ≡ true → changes c.survey.fields path f ≡ false → keeps c.survey.fields path f ≡ true
+  pub numbers-treated : number_count c ≤ length path → (f : ℕ) → has_field (number_fields (shape_of c.survey.fields)) f ≡ true → changes c.survey.fields path f
+      ≡ false → keeps c.survey.fields path f ≡ true
   numbers-treated enough f there unchanged = within-kept f (omega (arith, enough, number-place c f there)) unchanged
 
   pub complete-treats : length path ≡ field_count c → (f : ℕ) → has_field (path_order c.survey.fields) f ≡ true → treats c path f ≡ true

@@ -1,14 +1,16 @@
 use Rattle.std.proofs.Common.{Bool, List, [], ap, arith, false, if◌then◌else◌, inl, inr, refl, subst, sym, true, ℕ, ◌&&◌, ◌++◌, ◌+◌, ◌<◌, ◌∙◌, ◌∷◌, ◌≡◌, ◌⊎◌}
 use Rattle.std.specs.List.{fold, sum_by}
 use Rattle.std.specs.List.Sorted.{IsPermutation}
-use Rattle.std.proofs.lemmas.List.Sorted.{IsPermutation-append_right, IsPermutation-cons, IsPermutation-middle, IsPermutation-refl, IsPermutation-sym, IsPermutation-trans, sum_by-IsPermutation}
+use Rattle.std.proofs.lemmas.List.Sorted.{IsPermutation-append_right, IsPermutation-cons, IsPermutation-middle, IsPermutation-refl, IsPermutation-sym}
+use Rattle.std.proofs.lemmas.List.Sorted.{IsPermutation-trans, sum_by-IsPermutation}
 use Rattle.std.proofs.lemmas.List.Sums.{sum_by-append, sum_by-cons}
 use Rattle.edit_line.specs.Reductions.{IsIn}
 use Rattle.edit_paths.specs.ReachedPaths.{AreInOrder, in_order, placed}
 
 -- A list in order: it has the elements of the list, each as often, and is the only such list.
 
-module _ {X : Type 0} (before : X → X → Bool) (total : (x y : X) → before x y ≡ false → before y x ≡ true) (chain : (x y z : X) → before x y ≡ true → before y z ≡ true → before x z ≡ true)
+module _ {X : Type 0} (before : X → X → Bool) (total : (x y : X) → before x y ≡ false → before y x ≡ true) (chain : (x y z : X) → before x y ≡ true → before y z
+    ≡ true → before x z ≡ true)
     (equal : (x y : X) → before x y ≡ true → before y x ≡ true → x ≡ y) where
   self : (x : X) → before x x ≡ true
   self x = by (before x x) refl
@@ -60,7 +62,8 @@ module _ {X : Type 0} (before : X → X → Bool) (total : (x y : X) → before 
       head =
           let some = in-counted x (x ∷ xs) (inl refl) in
           let other = in-counted y (y ∷ ys) (inl refl) in
-          equal x y (least y x xs first (counted-in y (x ∷ xs) (omega (arith, other, same y)))) (least x y ys second (counted-in x (y ∷ ys) (omega (arith, some, same x))))
+          equal x y (least y x xs first (counted-in y (x ∷ xs) (omega (arith, other, same y))))
+          (least x y ys second (counted-in x (y ∷ ys) (omega (arith, some, same x))))
 
       heads : (x ∷ xs) ≡ (y ∷ xs)
       heads = ap (λ (z : X). z ∷ xs) head
@@ -74,7 +77,8 @@ module _ {X : Type 0} (before : X → X → Bool) (total : (x y : X) → before 
   count-placed a x [] = count-cons a x []
   count-placed a x (y ∷ ys) = by (before y x) (count-placed a x ys)
     where
-      by : (b : Bool) → count a (placed before ys x) ≡ is a x + count a ys → count a (if b then y ∷ placed before ys x else x ∷ y ∷ ys) ≡ is a x + count a (y ∷ ys)
+      by : (b : Bool) → count a (placed before ys x) ≡ is a x + count a ys → count a (if b then y ∷ placed before ys x else x ∷ y ∷ ys)
+          ≡ is a x + count a (y ∷ ys)
       by true rest = omega (arith, rest, count-cons a y (placed before ys x), count-cons a y ys)
       by false rest = count-cons a x (y ∷ ys)
 
@@ -89,7 +93,8 @@ module _ {X : Type 0} (before : X → X → Bool) (total : (x y : X) → before 
   in-placed z x [] there = there
   in-placed z x (y ∷ ys) there = by (before y x) (in-placed z x ys) there
     where
-      by : (b : Bool) → (IsIn z (placed before ys x) → (z ≡ x) ⊎ IsIn z ys) → IsIn z (if b then y ∷ placed before ys x else x ∷ y ∷ ys) → (z ≡ x) ⊎ ((z ≡ y) ⊎ IsIn z ys)
+      by : (b : Bool) → (IsIn z (placed before ys x) → (z ≡ x) ⊎ IsIn z ys) → IsIn z (if b then y ∷ placed before ys x else x ∷ y ∷ ys) → (z ≡ x)
+          ⊎ ((z ≡ y) ⊎ IsIn z ys)
       by true rest (inl e) = inr (inl e)
       by true rest (inr later) = elim (rest later) [ inl e ↦ inl e | inr at ↦ inr (inr at) ]
       by false rest h = h
@@ -99,7 +104,10 @@ module _ {X : Type 0} (before : X → X → Bool) (total : (x y : X) → before 
   placed-sorted x (y ∷ ys) sorted = by (before y x) refl (placed-sorted x ys sorted.1)
     where
       by : (b : Bool) → before y x ≡ b → AreInOrder before (placed before ys x) → AreInOrder before (if b then y ∷ placed before ys x else x ∷ y ∷ ys)
-      by true e rest = (λ z there. elim (in-placed z x ys there) [ inl same ↦ subst (λ (w : X). before y w ≡ true) (sym same) e | inr at ↦ sorted.0 z at ], rest)
+      by true e rest = (
+        λ z there. elim (in-placed z x ys there) [ inl same ↦ subst (λ (w : X). before y w ≡ true) (sym same) e | inr at ↦ sorted.0 z at ],
+        rest,
+      )
       by false e rest =
           let first = total y x e in (
             λ z there. elim there [ inl same ↦ subst (λ (w : X). before x w ≡ true) (sym same) first | inr at ↦ chain x y z first (sorted.0 z at) ],
@@ -132,13 +140,15 @@ module _ {X : Type 0} (before : X → X → Bool) (total : (x y : X) → before 
   pub permuted-folded : (done xs : List X) → IsPermutation (xs ++ done) (fold (placed before) done xs)
   permuted-folded done [] = IsPermutation-refl done
   permuted-folded done (x ∷ xs) =
-      IsPermutation-trans _ _ _ (IsPermutation-sym _ _ (IsPermutation-middle xs x done)) (IsPermutation-trans _ _ _ (IsPermutation-append_right xs _ _ (permuted-placed x done)) (permuted-folded (placed before done x) xs))
+      IsPermutation-trans _ _ _ (IsPermutation-sym _ _ (IsPermutation-middle xs x done))
+      (IsPermutation-trans _ _ _ (IsPermutation-append_right xs _ _ (permuted-placed x done)) (permuted-folded (placed before done x) xs))
 
   -- ---- what follows
 
   -- lists with the same elements have the same order
   pub same-order : (xs ys : List X) → ((a : X) → count a xs ≡ count a ys) → in_order before xs ≡ in_order before ys
-  same-order xs ys same = same-sorted (in_order before xs) (in_order before ys) (in_order-sorted xs) (in_order-sorted ys) (λ a. count-in_order a xs ∙ same a ∙ sym (count-in_order a ys))
+  same-order xs ys same = same-sorted (in_order before xs) (in_order before ys) (in_order-sorted xs) (in_order-sorted ys)
+      (λ a. count-in_order a xs ∙ same a ∙ sym (count-in_order a ys))
 
   pub permuted-order : (xs ys : List X) → IsPermutation xs ys → in_order before xs ≡ in_order before ys
   permuted-order xs ys moved = same-order xs ys (λ a. sym (sum_by-IsPermutation (is a) xs ys moved))

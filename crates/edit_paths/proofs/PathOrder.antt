@@ -1,4 +1,5 @@
-use Rattle.std.proofs.Common.{Bool, List, [], ap, arith, false, if◌then◌else◌, inl, inr, nat_lt, refl, slice_index_or, suc, sym, true, zero, ℕ, ◌&&◌, ◌++◌, ◌<◌, ◌==◌, ◌||◌, ◌∙◌, ◌∷◌, ◌≡◌, ◌≤◌, ◌⊎◌}
+use Rattle.std.proofs.Common.{Bool, List, [], ap, arith, false, if◌then◌else◌, inl, inr, nat_lt, refl, slice_index_or, suc, sym, true, zero, ℕ, ◌&&◌, ◌++◌, ◌<◌}
+use Rattle.std.proofs.Common.{◌==◌, ◌||◌, ◌∙◌, ◌∷◌, ◌≡◌, ◌≤◌, ◌⊎◌}
 use Rattle.std.specs.List.{filter, sum_by}
 use Rattle.std.proofs.lemmas.Bool.Decides.{Decides-eqb, Decides-ltb}
 use Rattle.std.proofs.lemmas.List.Sums.{sum_by-cons}
@@ -97,11 +98,13 @@ not-tells m n t h = by t refl (nat_lt n m) refl
 -- ---- weights
 
 -- a path that changes no more weighs no more
-pub sum-less : (w : ℕ → ℕ) (s t : ℕ → Bool) (fields : List ℕ) → ((f : ℕ) → IsIn f fields → s f ≡ true → t f ≡ true) → sum_by w (filter s fields) ≤ sum_by w (filter t fields)
+pub sum-less : (w : ℕ → ℕ) (s t : ℕ → Bool) (fields : List ℕ) → ((f : ℕ) → IsIn f fields → s f ≡ true → t f ≡ true)
+    → sum_by w (filter s fields) ≤ sum_by w (filter t fields)
 sum-less w s t [] each = omega arith
 sum-less w s t (f ∷ fields) each = by (s f) refl (t f) refl (sum-less w s t fields (λ g at. each g (inr at)))
   where
-    by : (a : Bool) → s f ≡ a → (b : Bool) → t f ≡ b → sum_by w (filter s fields) ≤ sum_by w (filter t fields) → sum_by w (if a then f ∷ filter s fields else filter s fields) ≤ sum_by w (if b then f ∷ filter t fields else filter t fields)
+    by : (a : Bool) → s f ≡ a → (b : Bool) → t f ≡ b → sum_by w (filter s fields) ≤ sum_by w (filter t fields)
+        → sum_by w (if a then f ∷ filter s fields else filter s fields) ≤ sum_by w (if b then f ∷ filter t fields else filter t fields)
     by true e true h rest = omega (arith, rest, sum_by-cons w f (filter s fields), sum_by-cons w f (filter t fields))
     by true e false h rest = absurd (cc (sym h ∙ each f (inl refl) e))
     by false e true h rest = omega (arith, rest, sum_by-cons w f (filter t fields))
@@ -117,18 +120,24 @@ module _ (c : SearchCase) where
   ]
 
   pub before-chain : (a b d : List Bool) → is_before c.survey.fields a b ≡ true → is_before c.survey.fields b d ≡ true → is_before c.survey.fields a d ≡ true
-  before-chain a b d h k = by (tells (path_weight c.survey.fields a) (path_weight c.survey.fields b) (is_first a b) h) (tells (path_weight c.survey.fields b) (path_weight c.survey.fields d) (is_first b d) k)
+  before-chain a b d h k = by (tells (path_weight c.survey.fields a) (path_weight c.survey.fields b) (is_first a b) h)
+      (tells (path_weight c.survey.fields b) (path_weight c.survey.fields d) (is_first b d) k)
     where
-      by : (path_weight c.survey.fields a < path_weight c.survey.fields b) ⊎ ((path_weight c.survey.fields a ≡ path_weight c.survey.fields b) × (is_first a b ≡ true)) → (path_weight c.survey.fields b < path_weight c.survey.fields d) ⊎ ((path_weight c.survey.fields b ≡ path_weight c.survey.fields d) × (is_first b d ≡ true)) → is_before c.survey.fields a d ≡ true
+      by : (path_weight c.survey.fields a < path_weight c.survey.fields b) ⊎ ((path_weight c.survey.fields a ≡ path_weight c.survey.fields b)
+          × (is_first a b ≡ true)) → (path_weight c.survey.fields b < path_weight c.survey.fields d)
+          ⊎ ((path_weight c.survey.fields b ≡ path_weight c.survey.fields d) × (is_first b d ≡ true)) → is_before c.survey.fields a d ≡ true
       by (inl m) (inl n) = less-told (path_weight c.survey.fields a) (path_weight c.survey.fields d) (is_first a d) (omega (arith, m, n))
       by (inl m) (inr n) = less-told (path_weight c.survey.fields a) (path_weight c.survey.fields d) (is_first a d) (omega (arith, m, n.0))
       by (inr m) (inl n) = less-told (path_weight c.survey.fields a) (path_weight c.survey.fields d) (is_first a d) (omega (arith, m.0, n))
       by (inr m) (inr n) = same-told (path_weight c.survey.fields a) (path_weight c.survey.fields d) (is_first a d) (m.0 ∙ n.0) (first-chain a b d m.1 n.1)
 
   pub before-equal : (a b : List Bool) → is_before c.survey.fields a b ≡ true → is_before c.survey.fields b a ≡ true → a ≡ b
-  before-equal a b h k = by (tells (path_weight c.survey.fields a) (path_weight c.survey.fields b) (is_first a b) h) (tells (path_weight c.survey.fields b) (path_weight c.survey.fields a) (is_first b a) k)
+  before-equal a b h k = by (tells (path_weight c.survey.fields a) (path_weight c.survey.fields b) (is_first a b) h)
+      (tells (path_weight c.survey.fields b) (path_weight c.survey.fields a) (is_first b a) k)
     where
-      by : (path_weight c.survey.fields a < path_weight c.survey.fields b) ⊎ ((path_weight c.survey.fields a ≡ path_weight c.survey.fields b) × (is_first a b ≡ true)) → (path_weight c.survey.fields b < path_weight c.survey.fields a) ⊎ ((path_weight c.survey.fields b ≡ path_weight c.survey.fields a) × (is_first b a ≡ true)) → a ≡ b
+      by : (path_weight c.survey.fields a < path_weight c.survey.fields b) ⊎ ((path_weight c.survey.fields a ≡ path_weight c.survey.fields b)
+          × (is_first a b ≡ true)) → (path_weight c.survey.fields b < path_weight c.survey.fields a)
+          ⊎ ((path_weight c.survey.fields b ≡ path_weight c.survey.fields a) × (is_first b a ≡ true)) → a ≡ b
       by (inl m) (inl n) = absurd (omega (arith, m, n))
       by (inl m) (inr n) = absurd (omega (arith, m, n.0))
       by (inr m) (inl n) = absurd (omega (arith, m.0, n))
@@ -144,8 +153,10 @@ module _ (c : SearchCase) where
   before-extends a b = by (nat_lt (path_weight c.survey.fields a) (path_weight c.survey.fields (a ++ b))) refl
     where
       less : path_weight c.survey.fields a ≤ path_weight c.survey.fields (a ++ b)
-      less = sum-less (weight_at c.survey.fields) (changes c.survey.fields a) (changes c.survey.fields (a ++ b)) (path_order c.survey.fields) (λ f at h. extended a b (path_place c.survey.fields f) h)
+      less = sum-less (weight_at c.survey.fields) (changes c.survey.fields a) (changes c.survey.fields (a ++ b)) (path_order c.survey.fields)
+          (λ f at h. extended a b (path_place c.survey.fields f) h)
 
       by : (l : Bool) → nat_lt (path_weight c.survey.fields a) (path_weight c.survey.fields (a ++ b)) ≡ l → is_before c.survey.fields a (a ++ b) ≡ true
       by true l = less-told (path_weight c.survey.fields a) (path_weight c.survey.fields (a ++ b)) (is_first a (a ++ b)) ((Decides-ltb _ _).0 l)
-      by false l = same-told (path_weight c.survey.fields a) (path_weight c.survey.fields (a ++ b)) (is_first a (a ++ b)) (grind (arith, l, less)) (first-extends a b)
+      by false l = same-told (path_weight c.survey.fields a) (path_weight c.survey.fields (a ++ b)) (is_first a (a ++ b)) (grind (arith, l, less))
+          (first-extends a b)

@@ -25,7 +25,15 @@ use Rattle.bound_cert.specs.declared.outcome.Outcome.TheVariants as outcome
 -- The outcomes of small records, computed from the definitions.
 
 abbrev number : (n : ℕ) → n < 2 ^ 127 → Value
-number n below = Number (record { numerator = pos n; denominator = pos 1; positive = omega (arith, ints); numerator_in_range = below; denominator_in_range = lit< tt; reduced = IsGcd-one _ })
+number n below = Number (record {
+  numerator = pos n;
+  denominator = pos 1;
+  positive = omega (arith, ints);
+  numerator_in_range = below;
+  denominator_in_range =
+      lit< tt;
+  reduced = IsGcd-one _;
+})
 
 abbrev number_field : ℕ → Field
 number_field weight = record { name = codes "x"; weight = weight; kind = kind.Number 1 }
@@ -48,7 +56,8 @@ abbrev pair_line : ℤ → ℤ → ℤ → LineParts
 pair_line a b constant = parts_of (Numerical ∷ Numerical ∷ []) [] (a ∷ b ∷ []) constant AtLeast
 
 abbrev pair_case : SearchCase
-pair_case = case_with (number_field 1 ∷ number_field 1 ∷ []) ((0, pair_line (pos 1) (pos 1) (negsuc 9)) ∷ (1, pair_line (negsuc 0) (negsuc 0) (pos 10)) ∷ []) (number 3 (lit< tt) ∷ number 4 (lit< tt) ∷ [])
+pair_case = case_with (number_field 1 ∷ number_field 1 ∷ []) ((0, pair_line (pos 1) (pos 1) (negsuc 9)) ∷ (1, pair_line (negsuc 0) (negsuc 0) (pos 10)) ∷ [])
+    (number 3 (lit< tt) ∷ number 4 (lit< tt) ∷ [])
 
 pair_total : total_work pair_case ≡ 5
 unfolding first_multiplier second_multiplier gcd reduced
@@ -77,7 +86,8 @@ abbrev balance_line : ℤ → ℤ → ℤ → LineParts
 balance_line a b constant = parts_of (Numerical ∷ Numerical ∷ []) [] (a ∷ b ∷ []) constant Equal
 
 abbrev balance_case : SearchCase
-balance_case = case_with (number_field 1 ∷ number_field 1 ∷ []) ((0, balance_line (pos 1) (pos 1) (negsuc 9)) ∷ []) (number 3 (lit< tt) ∷ number 4 (lit< tt) ∷ [])
+balance_case = case_with (number_field 1 ∷ number_field 1 ∷ []) ((0, balance_line (pos 1) (pos 1) (negsuc 9)) ∷ [])
+    (number 3 (lit< tt) ∷ number 4 (lit< tt) ∷ [])
 
 balance_total : total_work balance_case ≡ 4
 unfolding first_multiplier second_multiplier gcd reduced
@@ -143,7 +153,8 @@ abbrev household_line : List ℕ → LineParts
 household_line sets = parts_of (Categorical 2 ∷ Categorical 2 ∷ Categorical 2 ∷ []) sets [] (negsuc 0) AtLeast
 
 abbrev household_case : SearchCase
-household_case = case_with (code_field ∷ code_field ∷ code_field ∷ []) ((0, household_line (1 ∷ 2 ∷ 3 ∷ [])) ∷ (1, household_line (3 ∷ 1 ∷ 1 ∷ [])) ∷ []) (Code 0 ∷ Code 1 ∷ Code 0 ∷ [])
+household_case = case_with (code_field ∷ code_field ∷ code_field ∷ []) ((0, household_line (1 ∷ 2 ∷ 3 ∷ [])) ∷ (1, household_line (3 ∷ 1 ∷ 1 ∷ [])) ∷ [])
+    (Code 0 ∷ Code 1 ∷ Code 0 ∷ [])
 
 household_total : total_work household_case ≡ 11
 unfolding first_multiplier second_multiplier gcd reduced

@@ -78,16 +78,16 @@ step_parts (Cover field parts) = parts
 step_parts (Fix field part) = part ∷ []
 
 -- the step, with other numbers for its parts
-abbrev pub renumbered : (ℕ → ℕ) → Step → Step
-renumbered number (Given i) = Given i
-renumbered number (Combine a m b n g) = Combine (number a) m (number b) n g
-renumbered number (Fail a) = Fail (number a)
-renumbered number (Cover field parts) = Cover field (map number parts)
-renumbered number (Fix field part) = Fix field (number part)
+abbrev pub with_step_numbers : (ℕ → ℕ) → Step → Step
+with_step_numbers number (Given i) = Given i
+with_step_numbers number (Combine a m b n g) = Combine (number a) m (number b) n g
+with_step_numbers number (Fail a) = Fail (number a)
+with_step_numbers number (Cover field parts) = Cover field (map number parts)
+with_step_numbers number (Fix field part) = Fix field (number part)
 
 -- one more step, whose parts have their steps
 abbrev pub with_step : Element → (ℕ → Element) → Step → List Written → List Written
-with_step element maker step done = done ++ record { element = element; step = renumbered (λ i. step_number done (maker i)) step } ∷ []
+with_step element maker step done = done ++ record { element = element; step = with_step_numbers (λ i. step_number done (maker i)) step } ∷ []
 
 -- whether one of the steps proves the element
 abbrev pub has_step : Element → List Written → Bool

@@ -1,3 +1,5 @@
+//! That a survey, edits over its fields and a record are a case of the search, for callers whose proofs
+//! need it.
 ghost use Rattle.std.specs.Prelude.{◌≡◌, ◌≤◌, length};
 ghost use Rattle.std.specs.Arc.{arc_value};
 ghost use Rattle.edit_model.specs.Rows.{IsRow};
@@ -8,7 +10,9 @@ use edit_line::Edits;
 use edit_model::{Row, Survey};
 use std::sync::Arc;
 
-/// The survey, the edits and the record are a case. Nothing is computed.
+/// The survey, the edits and the record are a case: the fields are in form, and the record and the edits
+/// are over them. The survey has at most 64 fields. Nothing is computed. A caller calls it so that its
+/// proof has both facts.
 pub fn case_known(survey: &Survey, edits: &Arc<Edits>, row: &Row)
     requires row { IsRow survey.now.fields row.now }
     requires shape { (arc_value edits.now).shape ≡ shape_of survey.now.fields }

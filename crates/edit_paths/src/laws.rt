@@ -1,12 +1,16 @@
+//! Laws of paths and of outcomes, as calls that compute nothing: what the definitions of this crate tell of
+//! a record and its corrections.
 ghost use Rattle.std.specs.Prelude.{ℕ};
 ghost use Rattle.edit_paths.specs.Answers.{Certifies, ChoosesFirst, FindsChange, IsBudgetEnough, NoneMeets, ShowsContradiction};
 ghost use Rattle.edit_paths.specs.Cases.{SearchCase, IsCase};
 ghost use Rattle.edit_paths.specs.Laws.{ClosedPathLaw, LeastLaw, OpenPathLaw, OrderLaw, ReachedLaw, StepOverflowLaw, TestOverflowLaw, WalkLaw};
 ghost use Rattle.edit_paths.specs.Outcomes.{outcome_of};
 
-/// What the state of a path tells of the points at which the edits hold, which paths are reached, in which
-/// order they stand and a best-first walk takes them, and which numbers the event of an overflow names.
-/// Nothing is computed.
+/// Laws of paths, for the proofs of callers; nothing is computed. At a closed path no point that meets the
+/// edits keeps what it keeps. A path that says something of all fields, in range, is open exactly where
+/// some such point differs only where it changes. A path is reached exactly where all that it extends are
+/// open. The reached paths are in order, by weight and then letter by letter; a best-first walk takes them
+/// so. An overflow names two lines whose combination leaves the range, or a line whose sum does.
 pub fn path_laws()
     ensures closed_path { ClosedPathLaw }
     ensures open_path { OpenPathLaw }
@@ -17,9 +21,11 @@ pub fn path_laws()
     ensures test_overflow { TestOverflowLaw }
 {}
 
-/// What the outcome of a record tells of its corrections: a change is the first of the least
-/// (Fellegi and Holt 1976), and a contradiction has none; when the budget is enough; and that the
-/// certificates are valid. Nothing is computed.
+/// Laws of outcomes, for the proofs of callers; nothing is computed. A change is the lightest at which the
+/// edits hold, and of equal ones the first letter by letter. Where they hold just at the corrections, it
+/// is a least change (Fellegi and Holt 1976). At no point do the edits of a contradictory record hold.
+/// With a budget of the total work, a change is found where there is one and no number leaves the range.
+/// The certificates are valid trees.
 pub fn outcome_laws()
     ensures change { (c : SearchCase) (budget : ℕ) → IsCase c → ChoosesFirst c (outcome_of c budget) }
     ensures least { LeastLaw }

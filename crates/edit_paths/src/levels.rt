@@ -1,4 +1,6 @@
-//! Lists of lines or boxes, each derived from the one before it, and how their elements were made.
+//! Lists of lines or boxes, each derived from the one before it, and how their elements were made. From
+//! them the steps of a certificate are written. In contracts, `makings_of` says how the elements of a list
+//! were made.
 ghost use Rattle.std.specs.Prelude.{◌≡◌, IfOk};
 ghost use Rattle.edit_paths.specs.Histories.{box_by, line_by, making_at};
 ghost use Rattle.edit_paths.specs.Levels.{makings_of};
@@ -18,14 +20,16 @@ use std::sync::Arc;
 pub enum Level {
     /// The lines of a system.
     Lines(Arc<Held>),
-    /// The boxes after this field was treated, or, with field 0, those of the lines that fail.
+    /// The boxes after this field was treated, or, with field 0, those of the lines that fail. The field is
+    /// read only of boxes that a step at it made, and failing lines made none of these.
     Boxes {
         field: u32,
         boxes: Arc<Sequence<BoxFrom>>,
     },
 }
 
-/// How the element at this place of the list was made.
+/// How the element at this place of the list was made: by a step, or not at all, since it was in the list
+/// before. Past the end of the list the answer is `Same(0)`.
 pub(crate) fn making_at(alloc: Global, level: &Level, place: u64) -> Result<Making, OutOfMemory>
     ensures { IfOk result (λ making. making ≡ making_at (makings_of level.now) place) }
 {
@@ -41,8 +45,8 @@ pub(crate) fn making_at(alloc: Global, level: &Level, place: u64) -> Result<Maki
     }
 }
 
-/// The place, in the list before, of the element at this place of the list, if it was there already.
-/// No memory.
+/// The place, in the list before, of the element at this place of the list. None where a step made the
+/// element. Past the end of the list the answer is place 0, as by [`making_at`]. No memory.
 pub(crate) fn earlier_at(level: &Level, place: u64) -> Option<u64>
     ensures { result ≡ earlier_of (making_at (makings_of level.now) place) }
 {
@@ -58,7 +62,7 @@ pub(crate) fn earlier_at(level: &Level, place: u64) -> Option<u64>
     }
 }
 
-/// How a line with this origin was made. No memory.
+/// How a line with this origin was made: an edit is a given line, and a pair is a combination. No memory.
 pub fn line_by(origin: Origin) -> Making
     ensures { result ≡ line_by origin }
 {
@@ -69,7 +73,8 @@ pub fn line_by(origin: Origin) -> Making
     }
 }
 
-/// How a box with this origin was made, where the field was treated last.
+/// How a box with this origin was made, where `field` was treated last. The field is named by the steps
+/// that cover it or fix it.
 pub fn box_by(alloc: Global, field: u32, origin: &BoxOrigin) -> Result<Making, OutOfMemory>
     ensures { IfOk result (λ making. making ≡ box_by field origin.now) }
 {
@@ -87,7 +92,7 @@ pub fn box_by(alloc: Global, field: u32, origin: &BoxOrigin) -> Result<Making, O
     }
 }
 
-// The place before of a line with this origin, if it was there already.
+// The place in the list before of a line with this origin; None where it is an edit or a combination.
 fn earlier_line(origin: Origin) -> Option<u64>
     ensures { result ≡ earlier_of (line_by origin) }
 {
@@ -97,7 +102,8 @@ fn earlier_line(origin: Origin) -> Option<u64>
     }
 }
 
-// The place before of a box with this origin, if it was there already.
+// The place in the list before of a box with this origin; None where a step made it. The field does not
+// decide; it stands here as in [`box_by`].
 fn earlier_box(field: u32, origin: &BoxOrigin) -> Option<u64>
     ensures { result ≡ earlier_of (box_by field origin.now) }
 {

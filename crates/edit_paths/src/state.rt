@@ -1,3 +1,5 @@
+//! What becomes of a path of the search: it is open, closed by something that was found, or past the range
+//! of numbers.
 ghost use Rattle.std.specs.Prelude.{◌≡◌};
 ghost use Rattle.edit_paths.specs.PathStates.{is_closed, is_open};
 

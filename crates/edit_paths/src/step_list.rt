@@ -1,3 +1,5 @@
+//! The steps that are written so far for a proof, found by the elements that they prove. An element is
+//! named by how many lists were derived before its own, and its place there, both from 0.
 ghost use Rattle.std.specs.Prelude.{◌≡◌, ◌++◌, ◌∷◌, [], IfOk, OnOk, false, map};
 ghost use Rattle.edit_paths.specs.Histories.{has_step, step_number};
 
@@ -28,7 +30,7 @@ impl Model for StepList {
 }
 
 impl StepList {
-    /// No steps. No memory.
+    /// No steps: a proof begins with these. No memory.
     pub(crate) fn new(alloc: Global) -> StepList
         ensures { result ≡ [] }
     {
@@ -38,14 +40,15 @@ impl StepList {
         }
     }
 
-    /// Whether the element has a step. No memory.
+    /// Whether the element has a step, so that none is written again. No memory.
     pub(crate) fn has(&self, element: (u64, u64)) -> bool
         ensures { result ≡ has_step element self.now }
     {
         self.numbers.contains_key(&element)
     }
 
-    /// The number of the element's step, past the end where it has none. No memory.
+    /// The number of the element's step, from 0. Where it has none, this is the count of the steps. No
+    /// memory.
     pub(crate) fn number_of(&self, element: (u64, u64)) -> u64
         ensures { result ≡ step_number self.now element }
     {
@@ -71,7 +74,7 @@ impl StepList {
         }
     }
 
-    /// The steps alone.
+    /// The steps alone, in their order, without the elements that they prove.
     pub(crate) fn into_steps(self, alloc: Global) -> Result<Sequence<Step>, OutOfMemory>
         ensures { IfOk result (λ steps. steps ≡ map (λ w. w.step) self) }
     {

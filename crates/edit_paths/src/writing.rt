@@ -1,6 +1,9 @@
-//! The steps that prove an element of a derived list: each element once, parts before the whole.
+//! The steps that prove an element of a derived list: each element once, parts before the whole. An
+//! element is named by how many lists were derived before its own, and its place there, both from 0. In
+//! contracts, `history_of` says how the elements of the lists were made. `maker` has an element as it was
+//! made, and `step_number` the number of its step.
 ghost use Rattle.std.specs.Prelude.{◌≡◌, IfOk, OnOk, map};
-ghost use Rattle.edit_paths.specs.Histories.{maker, step_number, step_parts, renumbered, steps_to, with_proof};
+ghost use Rattle.edit_paths.specs.Histories.{maker, step_number, step_parts, with_step_numbers, steps_to, with_proof};
 ghost use Rattle.edit_paths.specs.Levels.{history_of};
 
 use crate::levels::{Level, earlier_at, making_at};
@@ -10,8 +13,9 @@ use derivation::Step;
 use foundation::{OutOfMemory, Sequence};
 use std::alloc::Global;
 
-/// The steps that prove the element at this place of the last list, each of which is derived from the one
-/// before it: each element has one step, those that it is made of come before it, the first of them first.
+/// The steps that prove the line or box at this place of the last list, where each list is derived from the
+/// one before it. Each element has one step. Those that it is made of come before it, the first of them
+/// first.
 pub fn write_steps(
     alloc: Global,
     levels: &[Level],
@@ -24,7 +28,9 @@ pub fn write_steps(
     done.into_steps(alloc)
 }
 
-// Appends the steps that prove the element at this place of the last list, but for those that stand there.
+// Appends the steps that prove the element at this place of the last list, but for those that stand in
+// `done`. An element that was taken over as it was is proved in the list before. Without lists nothing is
+// appended.
 fn prove(
     alloc: Global,
     levels: &[Level],
@@ -50,14 +56,15 @@ fn prove(
             for part in &parts {
                 prove(alloc, before, *part, done)?;
             }
-            let step = renumbered(alloc, before, done, step)?;
+            let step = with_step_numbers(alloc, before, done, step)?;
             done.push(element, step)?;
             Ok(())
         }
     }
 }
 
-// The element at this place of the last list, where it was made.
+// The element at this place of the last list, where it was made: how many lists stand before its own, and
+// its place there. An element that was taken over as it was is looked for in the list before.
 fn maker(levels: &[Level], place: u64) -> (u64, u64)
     ensures { result ≡ maker (history_of levels.now) place }
 {
@@ -70,7 +77,7 @@ fn maker(levels: &[Level], place: u64) -> (u64, u64)
     }
 }
 
-/// The places that a step builds on, in order.
+/// The places that a step builds on, in order; none for a given line.
 pub fn parts_of(alloc: Global, step: &Step) -> Result<Vec<u64>, OutOfMemory>
     ensures { IfOk result (λ parts. parts.items ≡ step_parts step.now) }
 {
@@ -83,14 +90,16 @@ pub fn parts_of(alloc: Global, step: &Step) -> Result<Vec<u64>, OutOfMemory>
     }
 }
 
-// The number of the step that proves the element at this place of the last list.
+// The number of the step that proves the element at this place of the last list. A step that is being
+// written names this element as a part. The element's step stands in `done`, written before.
 fn part_number(levels: &[Level], done: &StepList, place: u64) -> u64
     ensures { result ≡ step_number done.now (maker (history_of levels.now) place) }
 {
     done.number_of(maker(levels, place))
 }
 
-// The numbers of the steps that prove the elements at these places of the last list.
+// The numbers of the steps that prove the elements at these places of the last list, as [`part_number`]
+// tells each.
 fn part_numbers(
     alloc: Global,
     levels: &[Level],
@@ -107,14 +116,15 @@ fn part_numbers(
     )
 }
 
-// The step, with the numbers of the steps that prove its parts.
-fn renumbered(
+// The step, where the places of its parts in the last list are replaced by the numbers of the steps that
+// prove them. A given line keeps its number.
+fn with_step_numbers(
     alloc: Global,
     levels: &[Level],
     done: &StepList,
     step: Step,
 ) -> Result<Step, OutOfMemory>
-    ensures { IfOk result (λ with. with ≡ renumbered (λ i. step_number done.now (maker (history_of levels.now) i)) step) }
+    ensures { IfOk result (λ with. with ≡ with_step_numbers (λ i. step_number done.now (maker (history_of levels.now) i)) step) }
 {
     match step {
         Step::Given(number) => Ok(Step::Given(number)),

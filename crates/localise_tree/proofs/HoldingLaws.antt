@@ -1,4 +1,5 @@
-use Rattle.std.proofs.Common.{◌≡◌, ◌≢◌, ◌==◌, inl, inr, ℕ, zero, suc, ◌<◌, ◌&&◌, ◌||◌, Bool, true, false, not, if◌then◌else◌, nat_lt, List, [], ◌∷◌, All, Option, Some, None, Result, Ok, Err, length, slice_index_or, pos, refl, sym, ap, ◌∙◌, subst, arith}
+use Rattle.std.proofs.Common.{◌≡◌, ◌≢◌, ◌==◌, inl, inr, ℕ, zero, suc, ◌<◌, ◌&&◌, ◌||◌, Bool, true, false, not, if◌then◌else◌, nat_lt, List, [], ◌∷◌}
+use Rattle.std.proofs.Common.{All, Option, Some, None, Result, Ok, Err, length, slice_index_or, pos, refl, sym, ap, ◌∙◌, subst, arith}
 use Rattle.std.specs.List.{filter, fold, list_all, list_any, position}
 use Rattle.foundation.specs.Results.{◌>>=◌, fault_as}
 use Rattle.edit_model.specs.Corrections.{is_numerical, path_order}
@@ -74,16 +75,19 @@ kept-numbers c count = filter-none (changes c.survey.fields (kept_path count)) (
 
 -- a field of the path order is one of the fields
 order-within : (fields : List Field) (f : ℕ) → has_field (path_order fields) f ≡ true → f < length fields
-order-within fields f there = by (has_field (corrections.number_fields fields) f) refl (sym (has-append f (corrections.number_fields fields) (corrections.code_fields fields)) ∙ there)
+order-within fields f there =
+    by (has_field (corrections.number_fields fields) f) refl (sym (has-append f (corrections.number_fields fields) (corrections.code_fields fields)) ∙ there)
   where
-    by : (b : Bool) → has_field (corrections.number_fields fields) f ≡ b → (has_field (corrections.number_fields fields) f || has_field (corrections.code_fields fields) f) ≡ true → f < length fields
+    by : (b : Bool) → has_field (corrections.number_fields fields) f ≡ b
+        → (has_field (corrections.number_fields fields) f || has_field (corrections.code_fields fields) f) ≡ true → f < length fields
     by true e h = field-below is_numerical fields f e
     by false e h = field-below (λ k. not (is_numerical k)) fields f (sym (ap (λ b. b || has_field (corrections.code_fields fields) f) e) ∙ h)
 
 -- the lines that the search begins with are over the fields of the case
 pub lines-over : (c : SearchCase) → IsCase c → All (λ (d : Derived). HasShape (shape_of c.survey.fields) d.line) (reduce_derived (base_lines c.edits))
 lines-over c is = all-in (λ (d : Derived). HasShape (shape_of c.survey.fields) d.line) (reduce_derived (base_lines c.edits)) (λ d there.
-    in-all (λ l. HasShape (shape_of c.survey.fields) l) d.line (lines_of (reduce_derived (base_lines c.edits))) (start_over c is) (in-map (λ (d : Derived). d.line) d (reduce_derived (base_lines c.edits)) there))
+    in-all (λ l. HasShape (shape_of c.survey.fields) l) d.line (lines_of (reduce_derived (base_lines c.edits))) (start_over c is)
+    (in-map (λ (d : Derived). d.line) d (reduce_derived (base_lines c.edits)) there))
 
 module _ (c : SearchCase) (is : IsCase c) (holds : holds_throughout c ≡ true) where
   abbrev lines : List Derived
@@ -126,10 +130,13 @@ module _ (c : SearchCase) (is : IsCase c) (holds : holds_throughout c ≡ true) 
 
   module _ (d : Derived) (there : IsIn d lines) where
     stands-field : (f : ℕ) → factor d.line f ≢ pos 0 → has_field (path_order c.survey.fields) f ≡ true
-    stands-field f stands = number-field c f (subst (λ (s : List Domain). has_field (number_fields s) f ≡ true) (line-over d there).same (factor-numerical d.line f stands))
+    stands-field f stands =
+        number-field c f (subst (λ (s : List Domain). has_field (number_fields s) f ≡ true) (line-over d there).same (factor-numerical d.line f stands))
 
     has-numbers : HasNumbers c.row d.line
-    has-numbers = numbers-held c.survey.fields c.row d.line (line-over d there).same is.row (at-factors (λ f. value_of c.row f ≢ Bad) d.line (λ f stands. field-held f (stands-field f stands)))
+    has-numbers =
+        numbers-held c.survey.fields c.row d.line (line-over d there).same is.row
+        (at-factors (λ f. value_of c.row f ≢ Bad) d.line (λ f stands. field-held f (stands-field f stands)))
 
     agrees-there : AgreesOnLine c.row (point_of c.row) d.line
     agrees-there = at-factors (λ f. Agrees c.row (point_of c.row) f) d.line (λ f stands. point_of-agrees c.row f (field-held f (stands-field f stands)))
@@ -139,8 +146,11 @@ module _ (c : SearchCase) (is : IsCase c) (holds : holds_throughout c ≡ true) 
     unfolding point_of
     line-holds = record { enough = λ inside. by (fails_at d.line c.row) refl (line-held d there) inside }
       where
-        enough-when : (failed : Bool) → fails_at d.line c.row ≡ Ok failed → not (failed && is_for c.row d.line) ≡ true → AreCodesIn d.line.sets (codes_at d.line.shape (point_of c.row)) → IsEnough d.line.relation (amount d.line (point_of c.row))
-        enough-when false e h inside = (is_enough-Decides d.line.relation (amount d.line (point_of c.row))).0 (passes (is_enough d.line.relation (amount d.line (point_of c.row))) (fails_at-truth d.line c.row (point_of c.row) false has-numbers agrees-there e))
+        enough-when : (failed : Bool) → fails_at d.line c.row ≡ Ok failed → not (failed && is_for c.row d.line) ≡ true
+            → AreCodesIn d.line.sets (codes_at d.line.shape (point_of c.row)) → IsEnough d.line.relation (amount d.line (point_of c.row))
+        enough-when false e h inside = (is_enough-Decides d.line.relation (amount d.line (point_of c.row))).0
+            (passes (is_enough d.line.relation (amount d.line (point_of c.row)))
+            (fails_at-truth d.line c.row (point_of c.row) false has-numbers agrees-there e))
           where
             passes : (b : Bool) → false ≡ not b → b ≡ true
             passes true h = refl
@@ -149,32 +159,39 @@ module _ (c : SearchCase) (is : IsCase c) (holds : holds_throughout c ≡ true) 
             let codes_in : is_for c.row d.line ≡ true = (is_inside-Decides d.line.sets (codes_at d.line.shape (point_of c.row))).1 inside in
             absurd (cc (sym h ∙ ap not codes_in))
 
-        by : (r : Result Bool ℕ) → fails_at d.line c.row ≡ r → holds_by r (is_for c.row d.line) ≡ true → AreCodesIn d.line.sets (codes_at d.line.shape (point_of c.row)) → IsEnough d.line.relation (amount d.line (point_of c.row))
+        by : (r : Result Bool ℕ) → fails_at d.line c.row ≡ r → holds_by r (is_for c.row d.line) ≡ true
+            → AreCodesIn d.line.sets (codes_at d.line.shape (point_of c.row)) → IsEnough d.line.relation (amount d.line (point_of c.row))
         by (Ok failed) e h inside = enough-when failed e h inside
         by (Err f) e h inside = absurd (cc)
 
   row-meets : Meets c (point_of c.row)
   row-meets = record {
     codes = point_of-codes c.survey.fields c.row is.fields is.row;
-    edits = (start-same (shape_of c.survey.fields) c.edits lines is.edits.edits refl (point_of c.row)).0 (all-in (λ l. LineHolds l (point_of c.row)) (lines_of lines) (λ l there.
+    edits =
+        (start-same (shape_of c.survey.fields) c.edits lines is.edits.edits refl (point_of c.row)).0
+        (all-in (λ l. LineHolds l (point_of c.row)) (lines_of lines) (λ l there.
         let (d, at, same) = in-map-out (λ (d : Derived). d.line) l lines there in
         subst (λ (l : LineParts). LineHolds l (point_of c.row)) (sym same) (line-holds d at)));
   }
 
   -- ---- no number leaves the range
 
-  no-event : (path : List Bool) (e : Event) (i : ℕ) (some : List Derived) → ((d : Derived) → IsIn d some → (failed : Bool) × (fails_at d.line c.row ≡ Ok failed)) → first_failing c path i some ≡ Overflows e → ⊥
+  no-event : (path : List Bool) (e : Event) (i : ℕ) (some : List Derived)
+      → ((d : Derived) → IsIn d some → (failed : Bool) × (fails_at d.line c.row ≡ Ok failed)) → first_failing c path i some ≡ Overflows e → ⊥
   no-event path e i [] each h = cc h
   no-event path e i (d ∷ some) each h = let (failed, fits) = each d (inl refl) in
       by (asks_kept c path d.line) failed (no-event path e (suc i) some (λ x there. each x (inr there)))
-      (sym (ap (λ (r : Result Bool ℕ). if asks_kept c path d.line then closed_by i r (first_failing c path (suc i) some) else first_failing c path (suc i) some) fits) ∙ h)
+      (sym (ap (λ (r : Result Bool ℕ). if asks_kept c path d.line then closed_by i r (first_failing c path (suc i) some) else first_failing c path (suc i)
+      some) fits) ∙ h)
     where
-      by : (asks failed : Bool) → (first_failing c path (suc i) some ≡ Overflows e → ⊥) → (if asks then closed_by i (Ok failed) (first_failing c path (suc i) some) else first_failing c path (suc i) some) ≡ Overflows e → ⊥
+      by : (asks failed : Bool) → (first_failing c path (suc i) some ≡ Overflows e → ⊥)
+          → (if asks then closed_by i (Ok failed) (first_failing c path (suc i) some) else first_failing c path (suc i) some) ≡ Overflows e → ⊥
       by true true rest h = cc h
       by true false rest h = rest h
       by false failed rest h = rest h
 
-  boxes-made : (i : ℕ) (some : List Derived) (kept : List BoxFrom) → ((d : Derived) → IsIn d some → (failed : Bool) × (fails_at d.line c.row ≡ Ok failed)) → (boxes : List BoxFrom) × (failing_from i some c.row kept ≡ Ok boxes)
+  boxes-made : (i : ℕ) (some : List Derived) (kept : List BoxFrom) → ((d : Derived) → IsIn d some → (failed : Bool) × (fails_at d.line c.row ≡ Ok failed))
+      → (boxes : List BoxFrom) × (failing_from i some c.row kept ≡ Ok boxes)
   boxes-made i [] kept each = (kept, refl)
   boxes-made i (d ∷ some) kept each =
       let (failed, fits) = each d (inl refl) in
@@ -183,7 +200,8 @@ module _ (c : SearchCase) (is : IsCase c) (holds : holds_throughout c ≡ true) 
 
   kept-state : (count : ℕ) → state_of c (kept_path count) ≡ state_with_system c (kept_path count) (Ok lines)
   kept-state count =
-      ap (λ b. if b then ClosedBad else state_with_system c (kept_path count) (system_of c.edits (changed_numbers c (kept_path count)))) (no-bad (kept_path count))
+      ap (λ b. if b then ClosedBad else state_with_system c (kept_path count) (system_of c.edits (changed_numbers c (kept_path count))))
+      (no-bad (kept_path count))
       ∙ ap (λ (fs : List ℕ). state_with_system c (kept_path count) (system_of c.edits fs)) (kept-numbers c count)
 
   stays : (count : ℕ) (e : Event) → state_of c (kept_path count) ≡ Overflows e → ⊥
@@ -194,12 +212,17 @@ module _ (c : SearchCase) (is : IsCase c) (holds : holds_throughout c ≡ true) 
       at_boxes false (Some i) h = cc h
       at_boxes false None h = cc h
 
-      by : (b : Bool) → (if b then first_failing c (kept_path count) 0 lines else state_with_boxes c (kept_path count) lines (failing_from 0 lines c.row [])) ≡ Overflows e → ⊥
+      by : (b : Bool) → (if b then first_failing c (kept_path count) 0 lines else state_with_boxes c (kept_path count) lines
+          (failing_from 0 lines c.row [])) ≡ Overflows e → ⊥
       by true h = no-event (kept_path count) e 0 lines line-fits h
       by false h = let (boxes, made) = boxes-made 0 lines [] line-fits in
-          at_boxes (length (kept_path count) == number_count c) (position (λ (b : BoxFrom). are_whole (shape_of c.survey.fields) b.code_box.sets) (fold (boxes_after c (kept_path count)) boxes (treated_codes c (kept_path count))))
+          at_boxes (length (kept_path count) == number_count c)
+          (position (λ (b : BoxFrom). are_whole (shape_of c.survey.fields) b.code_box.sets)
+          (fold (boxes_after c (kept_path count)) boxes (treated_codes c (kept_path count))))
           (sym (ap (λ (r : Result (List BoxFrom) LineFault). state_with_boxes c (kept_path count) lines r) made) ∙ h)
 
   -- each path that keeps all its fields is open
   pub kept-open : (count : ℕ) → IsOpen c (kept_path count)
-  kept-open count = not-closed c is (kept_path count) (stays count) (λ closed. closed-path c is (kept_path count) closed (point_of c.row) row-meets (row-agrees (kept_path count)))
+  kept-open count =
+      not-closed c is (kept_path count) (stays count) (λ closed. closed-path c is (kept_path count) closed (point_of c.row) row-meets
+      (row-agrees (kept_path count)))

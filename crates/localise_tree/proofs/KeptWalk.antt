@@ -1,4 +1,5 @@
-use Rattle.std.proofs.Common.{◌≡◌, ◌==◌, inl, inr, ℕ, zero, suc, ◌+◌, ◌<◌, ◌≤◌, ◌++◌, ◌&&◌, ◌||◌, Bool, true, false, not, if◌then◌else◌, nat_lt, List, [], ◌∷◌, Some, None, length, refl, sym, ap, ◌∙◌, subst, arith}
+use Rattle.std.proofs.Common.{◌≡◌, ◌==◌, inl, inr, ℕ, zero, suc, ◌+◌, ◌<◌, ◌≤◌, ◌++◌, ◌&&◌, ◌||◌, Bool, true, false, not, if◌then◌else◌, nat_lt, List}
+use Rattle.std.proofs.Common.{[], ◌∷◌, Some, None, length, refl, sym, ap, ◌∙◌, subst, arith}
 use Rattle.std.specs.List.{AllByRecursion, fold, list_any, sum_by}
 use Rattle.std.proofs.lemmas.Bool.Decides.{Decides-eqb, Decides-ltb}
 use Rattle.std.proofs.lemmas.List.{length-replicate}
@@ -61,12 +62,15 @@ first-kept (suc count) (true ∷ path) h = refl
 module _ (c : SearchCase) where
   -- it weighs nothing
   kept-weight : (count : ℕ) → path_weight c.survey.fields (kept_path count) ≡ 0
-  kept-weight count = ap (λ (fs : List ℕ). sum_by (weight_at c.survey.fields) fs) (filter-none (changes c.survey.fields (kept_path count)) (path_order c.survey.fields) (λ f. kept-letter count _))
+  kept-weight count =
+      ap (λ (fs : List ℕ). sum_by (weight_at c.survey.fields) fs)
+      (filter-none (changes c.survey.fields (kept_path count)) (path_order c.survey.fields) (λ f. kept-letter count _))
 
   -- and comes before each path that changes some field
   kept-before : (count : ℕ) (path : List Bool) → has_change path ≡ true → is_before c.survey.fields (kept_path count) path ≡ true
   kept-before count path h =
-      ap (λ n. nat_lt n (path_weight c.survey.fields path) || ((n == path_weight c.survey.fields path) && is_first (kept_path count) path)) (kept-weight count) ∙ by (path_weight c.survey.fields path)
+      ap (λ n. nat_lt n (path_weight c.survey.fields path) || ((n == path_weight c.survey.fields path) && is_first (kept_path count) path))
+      (kept-weight count) ∙ by (path_weight c.survey.fields path)
     where
       by : (n : ℕ) → (nat_lt 0 n || ((0 == n) && is_first (kept_path count) path)) ≡ true
       by zero = first-kept count path h
@@ -77,7 +81,8 @@ module _ (c : SearchCase) where
     where
       by : (b : Bool) → is_before c.survey.fields path (kept_path count) ≡ b → b ≡ false
       by false e = refl
-      by true e = absurd (cc (sym h ∙ ap (λ (p : List Bool). has_change p) (before-equal c path (kept_path count) e (kept-before count path h)) ∙ kept-changes count))
+      by true e =
+          absurd (cc (sym h ∙ ap (λ (p : List Bool). has_change p) (before-equal c path (kept_path count) e (kept-before count path h)) ∙ kept-changes count))
 
   placed-kept : (count : ℕ) (rest : List (List Bool)) → AllChange rest → placed (is_before c.survey.fields) rest (kept_path count) ≡ kept_path count ∷ rest
   placed-kept count [] all = refl
@@ -88,17 +93,20 @@ module _ (c : SearchCase) where
   placed-all new [] h all = (h, tt)
   placed-all new (path ∷ rest) h all = by (is_before c.survey.fields path new) (placed-all new rest h all.1)
     where
-      by : (b : Bool) → AllChange (placed (is_before c.survey.fields) rest new) → AllChange (if b then path ∷ placed (is_before c.survey.fields) rest new else new ∷ path ∷ rest)
+      by : (b : Bool) → AllChange (placed (is_before c.survey.fields) rest new)
+          → AllChange (if b then path ∷ placed (is_before c.survey.fields) rest new else new ∷ path ∷ rest)
       by true later = (all.0, later)
       by false later = (h, all)
 
   -- after one of them comes the next
   kept-turn : (count : ℕ) (rest : List (List Bool)) → count < field_count c → IsOpen c (kept_path count) → AllChange rest
-      → fold (placed (is_before c.survey.fields)) rest (next_paths c (kept_path count)) ≡ kept_path (suc count) ∷ placed (is_before c.survey.fields) rest (changed_next (kept_path count))
+      → fold (placed (is_before c.survey.fields)) rest (next_paths c (kept_path count))
+      ≡ kept_path (suc count) ∷ placed (is_before c.survey.fields) rest (changed_next (kept_path count))
   kept-turn count rest short opened all =
       ap (λ (ps : List (List Bool)). fold (placed (is_before c.survey.fields)) rest ps) next
       ∙ ap (λ (ps : List (List Bool)). placed (is_before c.survey.fields) ps (changed_next (kept_path count))) (placed-kept (suc count) rest all)
-      ∙ ap (λ b. if b then kept_path (suc count) ∷ placed (is_before c.survey.fields) rest (changed_next (kept_path count)) else changed_next (kept_path count) ∷ kept_path (suc count) ∷ rest)
+      ∙ ap (λ b. if b then kept_path (suc count) ∷ placed (is_before c.survey.fields) rest (changed_next (kept_path count)) else changed_next
+      (kept_path count) ∷ kept_path (suc count) ∷ rest)
       (kept-before (suc count) (changed_next (kept_path count)) (changed-last (kept_path count)))
     where
       not-complete : is_complete c (kept_path count) ≡ false
@@ -110,7 +118,8 @@ module _ (c : SearchCase) where
 
       next : next_paths c (kept_path count) ≡ kept_path (suc count) ∷ changed_next (kept_path count) ∷ []
       next =
-          ap (λ (s : PathState). if is_open s && not (is_complete c (kept_path count)) then kept_next (kept_path count) ∷ changed_next (kept_path count) ∷ [] else []) opened
+          ap (λ (s : PathState). if is_open s && not (is_complete c (kept_path count)) then kept_next (kept_path count) ∷ changed_next (kept_path count)
+          ∷ [] else []) opened
           ∙ ap (λ b. if not b then kept_next (kept_path count) ∷ changed_next (kept_path count) ∷ [] else []) not-complete
           ∙ ap (λ (p : List Bool). p ∷ changed_next (kept_path count) ∷ []) (kept-more count)
 
@@ -126,8 +135,10 @@ module _ (c : SearchCase) where
       end-is : end_at c budget taken (kept_path count)
           ≡ (if is_complete c (kept_path count) then Some (outcome.Change (kept_path count) 0 (record { leaves = certificate_of c [] })) else None)
       end-is =
-          state-end c budget count taken (kept_path count) spent (omega (arith, kept-work count, enough, fits)) ∙ ap (λ (s : PathState). end_by c taken (kept_path count) s) (opens count)
-          ∙ ap (λ n. if is_complete c (kept_path count) then Some (outcome.Change (kept_path count) n (record { leaves = certificate_of c (if nat_lt 0 n then taken else []) })) else None) (kept-weight count)
+          state-end c budget count taken (kept_path count) spent (omega (arith, kept-work count, enough, fits))
+          ∙ ap (λ (s : PathState). end_by c taken (kept_path count) s) (opens count)
+          ∙ ap (λ n. if is_complete c (kept_path count) then Some
+          (outcome.Change (kept_path count) n (record { leaves = certificate_of c (if nat_lt 0 n then taken else []) })) else None) (kept-weight count)
 
       end-last : count ≡ field_count c → end_at c budget taken (kept_path count) ≡ Some (all_kept (field_count c))
       end-last last =
@@ -139,7 +150,9 @@ module _ (c : SearchCase) where
           complete = (Decides-eqb (length (kept_path count)) (field_count c)).1 (length-replicate count false ∙ last)
 
       end-none : count < field_count c → end_at c budget taken (kept_path count) ≡ None
-      end-none short = end-is ∙ ap (λ b. if b then Some (outcome.Change (kept_path count) 0 (record { leaves = certificate_of c [] })) else None) (by (is_complete c (kept_path count)) refl)
+      end-none short =
+          end-is ∙ ap (λ b. if b then Some (outcome.Change (kept_path count) 0 (record { leaves = certificate_of c [] })) else None)
+          (by (is_complete c (kept_path count)) refl)
         where
           by : (b : Bool) → is_complete c (kept_path count) ≡ b → b ≡ false
           by false e = refl
@@ -148,17 +161,21 @@ module _ (c : SearchCase) where
     go : (left count : ℕ) → count + left ≡ field_count c → (taken rest : List (List Bool)) → count ≡ work_of_all c taken → AllChange rest
         → IsSearching c budget taken (kept_path count ∷ rest) → all_kept (field_count c) ≡ outcome_of c budget
     go zero count sum taken rest spent all searching =
-        searching-ends c budget taken (kept_path count ∷ rest) rest (kept_path count) searching refl (all_kept (field_count c)) (end-last count taken spent (omega (arith, sum)) (omega (arith, sum)))
+        searching-ends c budget taken (kept_path count ∷ rest) rest (kept_path count) searching refl (all_kept (field_count c))
+        (end-last count taken spent (omega (arith, sum)) (omega (arith, sum)))
     go (suc left) count sum taken rest spent all searching =
         go left (suc count) (omega (arith, sum)) (taken ++ kept_path count ∷ []) (placed (is_before c.survey.fields) rest (changed_next (kept_path count)))
         (omega (arith, spent, work-one c taken (kept_path count), kept-work count))
         (placed-all (changed_next (kept_path count)) rest (changed-last (kept_path count)) all)
-        (searching-turn c budget taken (kept_path count ∷ rest) rest (kept_path count) searching refl (kept_path (suc count) ∷ placed (is_before c.survey.fields) rest (changed_next (kept_path count)))
-        (sym (kept-turn count rest (omega (arith, sum)) (opens count) all)) (taken ++ kept_path count ∷ []) (end-none count taken spent (omega (arith, sum)) (omega (arith, sum))) refl)
+        (searching-turn c budget taken (kept_path count ∷ rest) rest (kept_path count) searching refl
+        (kept_path (suc count) ∷ placed (is_before c.survey.fields) rest (changed_next (kept_path count)))
+        (sym (kept-turn count rest (omega (arith, sum)) (opens count) all)) (taken ++ kept_path count ∷ [])
+        (end-none count taken spent (omega (arith, sum)) (omega (arith, sum))) refl)
 
     -- where the budget is for these paths, and each is open, the path that keeps every field is the outcome
     pub kept-outcome : all_kept (field_count c) ≡ outcome_of c budget
-    kept-outcome = go (field_count c) 0 (omega arith) [] [] refl tt (record { fit = fit; sorted = (λ later there. absurd there, tt); rest = sym (search-start c budget) })
+    kept-outcome =
+        go (field_count c) 0 (omega arith) [] [] refl tt (record { fit = fit; sorted = (λ later there. absurd there, tt); rest = sym (search-start c budget) })
       where
         fit : (x : List Bool) → IsIn x ([] ∷ []) → length x ≤ field_count c
         fit x (inl same) = omega (arith, ap (λ (p : List Bool). length p) same)

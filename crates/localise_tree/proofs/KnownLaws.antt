@@ -1,4 +1,5 @@
-use Rattle.std.proofs.Common.{◌≡◌, ◌⊎◌, ◌*◌, ◌≤◌, ◌^◌, if◌then◌else◌, ◌&&◌, ◌||◌, ◌++◌, ℕ, suc, ◌+◌, ◌<◌, Bool, true, false, cond, List, [], ◌∷◌, Option, Some, None, inl, inr, length, slice_index_or, take, refl, sym, ap, ◌∙◌, subst, arith, ◌==◌}
+use Rattle.std.proofs.Common.{◌≡◌, ◌⊎◌, ◌*◌, ◌≤◌, ◌^◌, if◌then◌else◌, ◌&&◌, ◌||◌, ◌++◌, ℕ, suc, ◌+◌, ◌<◌, Bool, true, false, cond, List, [], ◌∷◌}
+use Rattle.std.proofs.Common.{Option, Some, None, inl, inr, length, slice_index_or, take, refl, sym, ap, ◌∙◌, subst, arith, ◌==◌}
 use Rattle.std.specs.BTreeMap.{get}
 use Rattle.std.specs.List.{AllByRecursion}
 use Rattle.std.specs.Ordering.{is_eq, nat_cmp}
@@ -59,13 +60,17 @@ same-path (true ∷ path) = same-path path
 same-path (false ∷ path) = same-path path
 
 same-letters : (a b : List Bool) → is_eq (nat_cmp (letters_number a) (letters_number b)) ≡ (is_first a b && is_first b a)
-same-letters a b = unsigned_tied (letters_number a) (letters_number b) ∙ by (eqb_tells (letters_number a) (letters_number b)) (is_first a b && is_first b a) refl
+same-letters a b =
+    unsigned_tied (letters_number a) (letters_number b) ∙ by (eqb_tells (letters_number a) (letters_number b)) (is_first a b && is_first b a) refl
   where
-    by : ((letters_number a == letters_number b) ≡ true × (letters_number a ≡ letters_number b)) ⊎ ((letters_number a == letters_number b) ≡ false × (letters_number a ≡ letters_number b → ⊥))
+    by : ((letters_number a == letters_number b) ≡ true × (letters_number a ≡ letters_number b))
+        ⊎ ((letters_number a == letters_number b) ≡ false × (letters_number a ≡ letters_number b → ⊥))
         → (r : Bool) → (is_first a b && is_first b a) ≡ r → (letters_number a == letters_number b) ≡ (is_first a b && is_first b a)
-    by (inl (same, e)) r is = same ∙ subst (λ (c : List Bool). true ≡ (is_first a c && is_first c a)) (one-number a b e) (sym (ap (λ (f : Bool). f && f) (same-path a)))
+    by (inl (same, e)) r is =
+        same ∙ subst (λ (c : List Bool). true ≡ (is_first a c && is_first c a)) (one-number a b e) (sym (ap (λ (f : Bool). f && f) (same-path a)))
     by (inr (apart, other)) false is = apart ∙ sym is
-    by (inr (apart, other)) true is = let (one, two) = both_true (is_first a b) (is_first b a) is in absurd (other (ap letters_number (first-equal a b one two)))
+    by (inr (apart, other)) true is = let (one, two) = both_true (is_first a b) (is_first b a) is in absurd
+        (other (ap letters_number (first-equal a b one two)))
 
 has-last : (paths : List (List Bool)) (path q : List Bool) → has_path (paths ++ path ∷ []) q ≡ (has_path paths q || (is_first path q && is_first q path))
 has-last [] path q = or_false (is_first path q && is_first q path)
@@ -73,7 +78,9 @@ has-last [] path q = or_false (is_first path q && is_first q path)
     or_false : (b : Bool) → (b || false) ≡ b
     or_false true = refl
     or_false false = refl
-has-last (p ∷ paths) path q = ap (λ b. (is_first p q && is_first q p) || b) (has-last paths path q) ∙ or_assoc (is_first p q && is_first q p) (has_path paths q) (is_first path q && is_first q path)
+has-last (p ∷ paths) path q =
+    ap (λ b. (is_first p q && is_first q p) || b) (has-last paths path q)
+    ∙ or_assoc (is_first p q && is_first q p) (has_path paths q) (is_first path q && is_first q path)
   where
     or_assoc : (a b d : Bool) → (a || (b || d)) ≡ ((a || b) || d)
     or_assoc true b d = refl
@@ -88,8 +95,10 @@ module _ (paths : List (List Bool)) (path q : List Bool) (place : ℕ) (last : l
   place-other (Some i) other (below, at) = (omega (arith, longer_by_one, below, last), get_or_append_left paths (path ∷ []) [] i below ∙ at)
   place-other None other absent = has-last paths path q ∙ ap (λ b. b || (is_first path q && is_first q path)) absent ∙ other
 
-  place-with : (old : Option ℕ) → IsPlaceOf paths q old → IsPlaceOf (paths ++ path ∷ []) q (cond (is_eq (nat_cmp (letters_number path) (letters_number q))) (Some place) old)
-  place-with old was = subst (λ b. IsPlaceOf (paths ++ path ∷ []) q (cond b (Some place) old)) (sym (same-letters path q)) (by (is_first path q && is_first q path) refl)
+  place-with : (old : Option ℕ) → IsPlaceOf paths q old
+      → IsPlaceOf (paths ++ path ∷ []) q (cond (is_eq (nat_cmp (letters_number path) (letters_number q))) (Some place) old)
+  place-with old was =
+      subst (λ b. IsPlaceOf (paths ++ path ∷ []) q (cond b (Some place) old)) (sym (same-letters path q)) (by (is_first path q && is_first q path) refl)
     where
       by : (b : Bool) → (is_first path q && is_first q path) ≡ b → IsPlaceOf (paths ++ path ∷ []) q (cond b (Some place) old)
       by false other = place-other old other was
@@ -99,12 +108,15 @@ module _ (paths : List (List Bool)) (path q : List Bool) (place : ℕ) (last : l
 
 -- ---- the paths that were taken
 
-pub places-next : (taken : List Taken) (i : ℕ) (t : Taken) (places new : Places) (number : ℕ) → i < length taken → t ≡ slice_index_or taken i t → number ≡ letters_number t.path → ArePlaces (taken_paths (take i taken)) places
+pub places-next : (taken : List Taken) (i : ℕ) (t : Taken) (places new : Places) (number : ℕ) → i < length taken → t ≡ slice_index_or taken i t
+    → number ≡ letters_number t.path → ArePlaces (taken_paths (take i taken)) places
     → ((q : ℕ) → get nat_cmp new q ≡ cond (is_eq (nat_cmp number q)) (Some i) (get nat_cmp places q)) → ArePlaces (taken_paths (take (i + 1) taken)) new
 places-next taken i t places new number below is same are with q =
     subst (λ (ps : List (List Bool)). IsPlaceOf ps q (place_at new q)) (sym paths)
-    (subst (λ o. IsPlaceOf (taken_paths (take i taken) ++ t.path ∷ []) q o) (sym (with (letters_number q) ∙ ap (λ (n : ℕ). cond (is_eq (nat_cmp n (letters_number q))) (Some i) (place_at places q)) same))
-    (place-with (taken_paths (take i taken)) t.path q i (length-map (take i taken) (λ (u : Taken). u.path) ∙ length-take-le i taken (omega (arith, below))) (place_at places q) (are q)))
+    (subst (λ o. IsPlaceOf (taken_paths (take i taken) ++ t.path ∷ []) q o)
+    (sym (with (letters_number q) ∙ ap (λ (n : ℕ). cond (is_eq (nat_cmp n (letters_number q))) (Some i) (place_at places q)) same))
+    (place-with (taken_paths (take i taken)) t.path q i (length-map (take i taken) (λ (u : Taken). u.path) ∙ length-take-le i taken (omega (arith, below)))
+    (place_at places q) (are q)))
   where
     paths : taken_paths (take (i + 1) taken) ≡ taken_paths (take i taken) ++ t.path ∷ []
     paths =
@@ -113,15 +125,22 @@ places-next taken i t places new number below is same are with q =
         ∙ ap (λ (u : Taken). taken_paths (take i taken) ++ u.path ∷ []) (sym is)
 
 -- a place is one of the taken paths
-pub place-below : (taken : List Taken) (letters : List Bool) (place : ℕ) (o : Option ℕ) → o ≡ Some place → IsPlaceOf (taken_paths taken) letters o → place < length taken
-place-below taken letters place o is at = let (below, same) = subst (λ p. IsPlaceOf (taken_paths taken) letters p) is at in omega (arith, below, length-map taken (λ (u : Taken). u.path))
+pub place-below : (taken : List Taken) (letters : List Bool) (place : ℕ) (o : Option ℕ) → o ≡ Some place → IsPlaceOf (taken_paths taken) letters o
+    → place < length taken
+place-below taken letters place o is at = let (below, same) = subst (λ p. IsPlaceOf (taken_paths taken) letters p) is at in omega
+    (arith, below, length-map taken (λ (u : Taken). u.path))
 
 -- and has the letters
-pub place-found : (taken : List Taken) (letters : List Bool) (place : ℕ) (o : Option ℕ) (t : Taken) → o ≡ Some place → IsPlaceOf (taken_paths taken) letters o → t ≡ slice_index_or taken place t → IsFound taken letters t
+pub place-found : (taken : List Taken) (letters : List Bool) (place : ℕ) (o : Option ℕ) (t : Taken) → o ≡ Some place
+    → IsPlaceOf (taken_paths taken) letters o → t ≡ slice_index_or taken place t → IsFound taken letters t
 place-found taken letters place o t is at found =
     let (below, same) = subst (λ p. IsPlaceOf (taken_paths taken) letters p) is at in
     let within = place-below taken letters place o is at in
-    record { there = subst (λ (u : Taken). IsIn u taken) (sym found) (in-index taken place t within); path = sym (get_or-map (λ (u : Taken). u.path) taken place t [] within ∙ ap (λ (u : Taken). u.path) (sym found)) ∙ same }
+    record {
+      there = subst (λ (u : Taken). IsIn u taken) (sym found) (in-index taken place t within);
+      path =
+          sym (get_or-map (λ (u : Taken). u.path) taken place t [] within ∙ ap (λ (u : Taken). u.path) (sym found)) ∙ same;
+    }
 
 -- ---- what is known of a path that was taken
 
@@ -134,7 +153,9 @@ module _ (taken : List Taken) (letters : List Bool) (one : Taken) (found : IsFou
       among (t ∷ ts) (inl same) =
           ap (λ (u : Taken). (is_first u.path one.path && is_first one.path u.path) || has_path (taken_paths ts) one.path) (sym same)
           ∙ ap (λ b. (b && b) || has_path (taken_paths ts) one.path) (same-path one.path)
-      among (t ∷ ts) (inr later) = ap (λ b. (is_first t.path one.path && is_first one.path t.path) || b) (among ts later) ∙ or_true (is_first t.path one.path && is_first one.path t.path)
+      among (t ∷ ts) (inr later) =
+          ap (λ b. (is_first t.path one.path && is_first one.path t.path) || b) (among ts later)
+          ∙ or_true (is_first t.path one.path && is_first one.path t.path)
         where
           or_true : (b : Bool) → (b || true) ≡ true
           or_true true = refl

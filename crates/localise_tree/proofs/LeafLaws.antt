@@ -1,4 +1,5 @@
-use Rattle.std.proofs.Common.{◌≡◌, ◌++◌, ◌-◌, ◌<◌, ◌≤◌, ℕ, zero, suc, Bool, true, false, if◌then◌else◌, List, [], ◌∷◌, Option, length, refl, take, sym, ap, subst, ◌∙◌, arith}
+use Rattle.std.proofs.Common.{◌≡◌, ◌++◌, ◌-◌, ◌<◌, ◌≤◌, ℕ, zero, suc, Bool, true, false, if◌then◌else◌, List, [], ◌∷◌, Option, length, refl, take}
+use Rattle.std.proofs.Common.{sym, ap, subst, ◌∙◌, arith}
 use Rattle.std.proofs.Math.Seq.{take-append_seam}
 use Rattle.bound_cert.specs.declared.cert.Leaf.{Leaf}
 use Rattle.bound_cert.specs.declared.cert.LeafWhy.TheVariants as why
@@ -22,7 +23,9 @@ use Rattle.path_walk.specs.declared.looks.Basis.{Basis}
 module _ (c : SearchCase) (taken : List (List Bool)) (path : List Bool) where
   pub leaves-unknown : (left : ℕ) → has_path taken path ≡ false → leaves_from c taken left path ≡ leaf path why.Bound
   leaves-unknown zero other = ap (λ b. if b then leaves_by c path [] (state_of c path) else leaf path why.Bound) other
-  leaves-unknown (suc left) other = ap (λ b. if b then leaves_by c path (leaves_from c taken left (kept_next path) ++ leaves_from c taken left (changed_next path)) (state_of c path) else leaf path why.Bound) other
+  leaves-unknown (suc left) other =
+      ap (λ b. if b then leaves_by c path (leaves_from c taken left (kept_next path) ++ leaves_from c taken left (changed_next path))
+      (state_of c path) else leaf path why.Bound) other
 
   -- the leaf of a closed path, and none of one that overflows
   ends : (below : List Leaf) (s : PathState) → (s ≡ Open → below ≡ []) → leaves_by c path below s ≡ leaves_by c path [] s
@@ -32,31 +35,40 @@ module _ (c : SearchCase) (taken : List (List Bool)) (path : List Bool) where
   ends below (ClosedBox i) none = refl
   ends below (Overflows e) none = refl
 
-  leaves-ended : (left : ℕ) (s : PathState) → has_path taken path ≡ true → state_of c path ≡ s → (s ≡ Open → left ≡ 0) → leaves_from c taken left path ≡ leaves_by c path [] s
+  leaves-ended : (left : ℕ) (s : PathState) → has_path taken path ≡ true → state_of c path ≡ s → (s ≡ Open → left ≡ 0)
+      → leaves_from c taken left path ≡ leaves_by c path [] s
   leaves-ended zero s has is end = ap (λ b. if b then leaves_by c path [] (state_of c path) else leaf path why.Bound) has ∙ ap (λ t. leaves_by c path [] t) is
   leaves-ended (suc left) s has is end =
-      ap (λ b. if b then leaves_by c path (leaves_from c taken left (kept_next path) ++ leaves_from c taken left (changed_next path)) (state_of c path) else leaf path why.Bound) has
+      ap (λ b. if b then leaves_by c path (leaves_from c taken left (kept_next path) ++ leaves_from c taken left (changed_next path))
+      (state_of c path) else leaf path why.Bound) has
       ∙ ap (λ t. leaves_by c path (leaves_from c taken left (kept_next path) ++ leaves_from c taken left (changed_next path)) t) is
       ∙ ends _ s (λ stays. absurd (omega (arith, end stays)))
 
   -- those below an open path
-  leaves-below : (left next : ℕ) → has_path taken path ≡ true → state_of c path ≡ Open → left ≡ suc next → leaves_from c taken left path ≡ leaves_from c taken next (kept_next path) ++ leaves_from c taken next (changed_next path)
+  leaves-below : (left next : ℕ) → has_path taken path ≡ true → state_of c path ≡ Open → left ≡ suc next
+      → leaves_from c taken left path ≡ leaves_from c taken next (kept_next path) ++ leaves_from c taken next (changed_next path)
   leaves-below left next has is more =
       ap (λ n. leaves_from c taken n path) more
-      ∙ ap (λ b. if b then leaves_by c path (leaves_from c taken next (kept_next path) ++ leaves_from c taken next (changed_next path)) (state_of c path) else leaf path why.Bound) has
+      ∙ ap (λ b. if b then leaves_by c path (leaves_from c taken next (kept_next path) ++ leaves_from c taken next (changed_next path))
+      (state_of c path) else leaf path why.Bound) has
       ∙ ap (λ t. leaves_by c path (leaves_from c taken next (kept_next path) ++ leaves_from c taken next (changed_next path)) t) is
 
   -- of a path that is not gone on with
-  pub leaves-last : (left : ℕ) (s : PathState) → has_path taken path ≡ true → state_of c path ≡ s → (is_open s ≡ true → left ≡ 0) → leaves_by c path [] s ≡ leaves_from c taken left path
+  pub leaves-last : (left : ℕ) (s : PathState) → has_path taken path ≡ true → state_of c path ≡ s → (is_open s ≡ true → left ≡ 0)
+      → leaves_by c path [] s ≡ leaves_from c taken left path
   leaves-last left s has is end = sym (leaves-ended left s has is (λ stays. end (ap (λ (t : PathState). is_open t) stays)))
 
   -- of an open path, those of both paths with one letter more
-  pub leaves-both : (first second : List Bool) (s : PathState) → has_path taken path ≡ true → state_of c path ≡ s → is_open s ≡ true → length path < field_count c → first ≡ path ++ false ∷ [] → second ≡ path ++ true ∷ []
-      → leaves_from c taken (field_count c - length first) first ++ leaves_from c taken (field_count c - length second) second ≡ leaves_from c taken (field_count c - length path) path
+  pub leaves-both : (first second : List Bool) (s : PathState) → has_path taken path ≡ true → state_of c path ≡ s → is_open s ≡ true
+      → length path < field_count c → first ≡ path ++ false ∷ [] → second ≡ path ++ true ∷ []
+      → leaves_from c taken (field_count c - length first) first ++ leaves_from c taken (field_count c - length second) second
+      ≡ leaves_from c taken (field_count c - length path) path
   leaves-both first second s has is stays few kept changed =
       ap (λ (p : List Bool). leaves_from c taken (field_count c - length p) p ++ leaves_from c taken (field_count c - length second) second) kept
-      ∙ ap (λ (p : List Bool). leaves_from c taken (field_count c - length (path ++ false ∷ [])) (path ++ false ∷ []) ++ leaves_from c taken (field_count c - length p) p) changed
-      ∙ ap (λ n. leaves_from c taken n (path ++ false ∷ []) ++ leaves_from c taken (field_count c - length (path ++ true ∷ [])) (path ++ true ∷ [])) (less false)
+      ∙ ap (λ (p : List Bool). leaves_from c taken (field_count c - length (path ++ false ∷ [])) (path ++ false ∷ [])
+      ++ leaves_from c taken (field_count c - length p) p) changed
+      ∙ ap (λ n. leaves_from c taken n (path ++ false ∷ []) ++ leaves_from c taken (field_count c - length (path ++ true ∷ [])) (path ++ true ∷ []))
+      (less false)
       ∙ ap (λ n. leaves_from c taken (field_count c - length path - 1) (path ++ false ∷ []) ++ leaves_from c taken n (path ++ true ∷ [])) (less true)
       ∙ sym (leaves-below (field_count c - length path) (field_count c - length path - 1) has (is ∙ open_is s stays) (omega (arith, few)))
     where
@@ -71,9 +83,12 @@ module _ (c : SearchCase) (taken : List (List Bool)) (path : List Bool) where
       open_is (Overflows e) h = absurd (cc)
 
 -- the letters without the last one
-pub popped : (letters before after : List Bool) (b : Bool) (n : ℕ) → n ≡ length before → before ≡ letters ++ b ∷ [] → after ≡ take (n - 1) before → after ≡ letters
+pub popped : (letters before after : List Bool) (b : Bool) (n : ℕ) → n ≡ length before → before ≡ letters ++ b ∷ [] → after ≡ take (n - 1) before
+    → after ≡ letters
 popped letters before after b n count pushed rest =
-    rest ∙ ap (λ (p : List Bool). take (n - 1) p) pushed ∙ ap (λ m. take m (letters ++ b ∷ [])) (omega (arith, count, ap (λ (p : List Bool). length p) pushed, longer letters b)) ∙ take-append_seam letters (b ∷ [])
+    rest ∙ ap (λ (p : List Bool). take (n - 1) p) pushed
+    ∙ ap (λ m. take m (letters ++ b ∷ [])) (omega (arith, count, ap (λ (p : List Bool). length p) pushed, longer letters b))
+    ∙ take-append_seam letters (b ∷ [])
 
 -- ---- what the paths with one letter more have of the path
 

@@ -1,4 +1,5 @@
-use Rattle.std.proofs.Common.{◌≡◌, ℕ, ◌+◌, ◌-◌, ◌<◌, ◌≤◌, ◌++◌, Bool, true, false, if◌then◌else◌, nat_lt, List, [], ◌∷◌, Option, Some, None, IfNone, IfSome, refl, sym, ap, ◌∙◌, subst, arith}
+use Rattle.std.proofs.Common.{◌≡◌, ℕ, ◌+◌, ◌-◌, ◌<◌, ◌≤◌, ◌++◌, Bool, true, false, if◌then◌else◌, nat_lt, List, [], ◌∷◌, Option, Some, None, IfNone}
+use Rattle.std.proofs.Common.{IfSome, refl, sym, ap, ◌∙◌, subst, arith}
 use Rattle.std.specs.List.{AllByRecursion, fold}
 use Rattle.std.proofs.lemmas.List.Sums.{sum_by-append, sum_by-cons}
 use Rattle.bound_cert.specs.Paths.{path_weight}
@@ -42,7 +43,8 @@ module _ (c : SearchCase) (budget spent : ℕ) (taken : List (List Bool)) (path 
   -- where the work passes the budget
   pub budget-end : spent ≤ budget → budget < spent + work_of c path → end_at c budget taken path ≡ Some (outcome.Budget path spent)
   budget-end within passed =
-      ap (λ (t : Bool). if t then Some (outcome.Budget path (work_of_all c taken)) else end_by c taken path (state_of c path)) over ∙ ap (λ (n : ℕ). Some (outcome.Budget path n)) (sym spent_is)
+      ap (λ (t : Bool). if t then Some (outcome.Budget path (work_of_all c taken)) else end_by c taken path (state_of c path)) over
+      ∙ ap (λ (n : ℕ). Some (outcome.Budget path n)) (sym spent_is)
     where
       over : nat_lt budget (work_of_all c taken + work_of c path) ≡ true
       over = ap (λ (n : ℕ). nat_lt budget (n + work_of c path)) (sym spent_is) ∙ grind (arith, passed)
@@ -64,7 +66,8 @@ same-basis c path (Lines a) (Boxes b) same is = absurd same
 same-basis c path (Boxes a) (Lines b) same is = absurd same
 
 -- what is kept of a look is the path's basis
-pub kept-basis : (c : SearchCase) (path : List Bool) (look : Look) (before after : ℕ) (kept : Option Basis) → IsLook c path look → IfSome kept (SharesBasis look before after) → IsKnownBasis c path kept
+pub kept-basis : (c : SearchCase) (path : List Bool) (look : Look) (before after : ℕ) (kept : Option Basis) → IsLook c path look
+    → IfSome kept (SharesBasis look before after) → IsKnownBasis c path kept
 kept-basis c path look before after None is shares = tt
 kept-basis c path look before after (Some basis) is shares = same-basis c path look.basis basis shares.same (is.basis shares.own)
 
@@ -79,7 +82,8 @@ are-more c [] t are is = (is, tt)
 are-more c (x ∷ taken) t are is = (are.0, are-more c taken t are.1 is)
 
 pub work-one : (c : SearchCase) (paths : List (List Bool)) (path : List Bool) → work_of_all c (paths ++ path ∷ []) ≡ work_of_all c paths + work_of c path
-work-one c paths path = sum_by-append (work_of c) paths (path ∷ []) ∙ ap (λ (n : ℕ). work_of_all c paths + n) (sum_by-cons (work_of c) path [] ∙ plus_zero (work_of c path))
+work-one c paths path =
+    sum_by-append (work_of c) paths (path ∷ []) ∙ ap (λ (n : ℕ). work_of_all c paths + n) (sum_by-cons (work_of c) path [] ∙ plus_zero (work_of c path))
   where
     plus_zero : (n : ℕ) → n + 0 ≡ n
     plus_zero n = omega arith
@@ -92,65 +96,86 @@ pub none-is : {X : Type 0} (o : Option X) → ((x : X) → o ≡ Some x → ⊥)
 none-is None other = refl
 none-is (Some x) other = absurd (other x refl)
 
-module _ (c : SearchCase) (budget spent : ℕ) (taken : List Taken) (ends rest : List Node) (node : Node) (running : IsRunning c budget spent taken ends) (is : ends ≡ node ∷ rest) where
+module _ (c : SearchCase) (budget spent : ℕ) (taken : List Taken) (ends rest : List Node) (node : Node) (running : IsRunning c budget spent taken ends)
+    (is : ends ≡ node ∷ rest) where
   pub run-budget : budget - spent < work_of c node.path → outcome.Budget node.path spent ≡ outcome_of c budget
   run-budget passed =
-      searching-ends c budget (taken_paths taken) (paths_of ends) (paths_of rest) node.path running.searching (ap (λ (ns : List Node). paths_of ns) is) (outcome.Budget node.path spent)
+      searching-ends c budget (taken_paths taken) (paths_of ends) (paths_of rest) node.path running.searching (ap (λ (ns : List Node). paths_of ns) is)
+      (outcome.Budget node.path spent)
       (budget-end c budget spent (taken_paths taken) node.path running.spent_is running.within (omega (arith, passed, running.within)))
 
-  module _ (work : ℕ) (state : PathState) (known : List Taken) (end : Option Outcome) (work_is : work ≡ work_of c node.path) (fits : work ≤ budget - spent) (state_is : state ≡ state_of c node.path) (known_are : known ≡ taken)
+  module _ (work : ℕ) (state : PathState) (known : List Taken) (end : Option Outcome) (work_is : work ≡ work_of c node.path) (fits : work ≤ budget - spent)
+      (state_is : state ≡ state_of c node.path) (known_are : known ≡ taken)
       (end_is : end ≡ end_by c (taken_paths known) node.path state) where
     ends-so : end ≡ end_at c budget (taken_paths taken) node.path
     ends-so =
-        end_is ∙ ap (λ (ts : List Taken). end_by c (taken_paths ts) node.path state) known_are ∙ ap (λ (s : PathState). end_by c (taken_paths taken) node.path s) state_is
+        end_is ∙ ap (λ (ts : List Taken). end_by c (taken_paths ts) node.path state) known_are
+        ∙ ap (λ (s : PathState). end_by c (taken_paths taken) node.path s) state_is
         ∙ sym (state-end c budget spent (taken_paths taken) node.path running.spent_is (omega (arith, work_is, fits, running.within)))
 
     pub run-ends : (o : Outcome) → end ≡ Some o → o ≡ outcome_of c budget
-    run-ends o found = searching-ends c budget (taken_paths taken) (paths_of ends) (paths_of rest) node.path running.searching (ap (λ (ns : List Node). paths_of ns) is) o (sym ends-so ∙ found)
+    run-ends o found =
+        searching-ends c budget (taken_paths taken) (paths_of ends) (paths_of rest) node.path running.searching (ap (λ (ns : List Node). paths_of ns) is) o
+        (sym ends-so ∙ found)
 
     module _ (new : List Node) (led : paths_of new ≡ fold (placed (is_before c.survey.fields)) (paths_of rest) (next_paths c node.path)) where
       pub run-less : left c (paths_of new) < left c (paths_of ends)
-      run-less = searching-less c budget (taken_paths taken) (paths_of ends) (paths_of rest) node.path running.searching (ap (λ (ns : List Node). paths_of ns) is) (paths_of new) led
+      run-less =
+          searching-less c budget (taken_paths taken) (paths_of ends) (paths_of rest) node.path running.searching (ap (λ (ns : List Node). paths_of ns) is)
+          (paths_of new) led
 
-      pub run-turn : end ≡ None → AllByRecursion (IsNode c) new → (basis : Option Basis) → IsKnownBasis c node.path basis → (after : List Taken) → after ≡ taken ++ record { path = node.path; state = state; basis = basis } ∷ []
+      pub run-turn : end ≡ None → AllByRecursion (IsNode c) new → (basis : Option Basis) → IsKnownBasis c node.path basis → (after : List Taken)
+          → after ≡ taken ++ record { path = node.path; state = state; basis = basis } ∷ []
           → IsRunning c budget (spent + work) after new
       run-turn none nodes basis known after more = record {
         searching =
-            searching-turn c budget (taken_paths taken) (paths_of ends) (paths_of rest) node.path running.searching (ap (λ (ns : List Node). paths_of ns) is) (paths_of new) led (taken_paths after) (sym ends-so ∙ none)
+            searching-turn c budget (taken_paths taken) (paths_of ends) (paths_of rest) node.path running.searching
+            (ap (λ (ns : List Node). paths_of ns) is) (paths_of new) led (taken_paths after) (sym ends-so ∙ none)
             (ap (λ (ts : List Taken). taken_paths ts) more ∙ taken-more taken (record { path = node.path; state = state; basis = basis }));
         nodes = nodes;
-        taken_are = subst (λ (ts : List Taken). AllByRecursion (IsTaken c) ts) (sym more) (are-more c taken (record { path = node.path; state = state; basis = basis }) running.taken_are (record { fit = (subst (λ (ns : List Node). AllByRecursion (IsNode c) ns) is running.nodes).0.fit; state = state_is; basis = known }));
+        taken_are = subst (λ (ts : List Taken). AllByRecursion (IsTaken c) ts) (sym more)
+            (are-more c taken (record { path = node.path; state = state; basis = basis }) running.taken_are
+            (record { fit = (subst (λ (ns : List Node). AllByRecursion (IsNode c) ns) is running.nodes).0.fit; state = state_is; basis = known }));
         spent_is =
-            ap (λ (n : ℕ). n + work) running.spent_is ∙ ap (λ (n : ℕ). work_of_all c (taken_paths taken) + n) work_is ∙ sym (work-one c (taken_paths taken) node.path)
-            ∙ ap (λ (ps : List (List Bool)). work_of_all c ps) (sym (ap (λ (ts : List Taken). taken_paths ts) more ∙ taken-more taken (record { path = node.path; state = state; basis = basis })));
+            ap (λ (n : ℕ). n + work) running.spent_is ∙ ap (λ (n : ℕ). work_of_all c (taken_paths taken) + n) work_is
+            ∙ sym (work-one c (taken_paths taken) node.path)
+            ∙ ap (λ (ps : List (List Bool)). work_of_all c ps)
+            (sym (ap (λ (ts : List Taken). taken_paths ts) more ∙ taken-more taken (record { path = node.path; state = state; basis = basis })));
         within = omega (arith, fits, running.within);
       }
 
 -- ---- what the source keeps
 
 -- it keeps what it kept before
-pub kept-later : (c : SearchCase) (first second : ℕ → Bool) → ((f : ℕ) → first f ≡ true → second f ≡ true) → (ends : List Node) → AreKept first c ends → AreKept second c ends
+pub kept-later : (c : SearchCase) (first second : ℕ → Bool) → ((f : ℕ) → first f ≡ true → second f ≡ true) → (ends : List Node) → AreKept first c ends
+    → AreKept second c ends
 kept-later c first second more [] are = tt
-kept-later c first second more (node ∷ ends) (keeps, are) = (more (set_of (changed_numbers c (before_last node.path))) keeps, kept-later c first second more ends are)
+kept-later c first second more (node ∷ ends) (keeps, are) =
+    (more (set_of (changed_numbers c (before_last node.path))) keeps, kept-later c first second more ends are)
 
-pub path-later : (c : SearchCase) (first second : ℕ → Bool) (path : List Bool) → ((f : ℕ) → first f ≡ true → second f ≡ true) → KeepsChanged first c path → KeepsChanged second c path
+pub path-later : (c : SearchCase) (first second : ℕ → Bool) (path : List Bool) → ((f : ℕ) → first f ≡ true → second f ≡ true) → KeepsChanged first c path
+    → KeepsChanged second c path
 path-later c first second path more keeps = more (set_of (changed_numbers c path)) keeps
 
 -- a change ends an open path, which is its own
-change-open : (c : SearchCase) (taken : List (List Bool)) (path : List Bool) (state : PathState) (chosen : List Bool) (weight : ℕ) (cert : Cert) → Some (outcome.Change chosen weight cert) ≡ end_by c taken path state → (state ≡ Open) × (path ≡ chosen)
+change-open : (c : SearchCase) (taken : List (List Bool)) (path : List Bool) (state : PathState) (chosen : List Bool) (weight : ℕ) (cert : Cert)
+    → Some (outcome.Change chosen weight cert) ≡ end_by c taken path state → (state ≡ Open) × (path ≡ chosen)
 change-open c taken path (Overflows e) chosen weight cert is = absurd (cc is)
 change-open c taken path ClosedBad chosen weight cert is = absurd (cc is)
 change-open c taken path (ClosedLine i) chosen weight cert is = absurd (cc is)
 change-open c taken path (ClosedBox i) chosen weight cert is = absurd (cc is)
 change-open c taken path Open chosen weight cert is = by (is_complete c path) is
   where
-    by : (b : Bool) → Some (outcome.Change chosen weight cert) ≡ (if b then Some (outcome.Change path (path_weight c.survey.fields path) (record { leaves = certificate_of c (if nat_lt 0 (path_weight c.survey.fields path) then taken else []) })) else None)
+    by : (b : Bool) → Some (outcome.Change chosen weight cert)
+        ≡ (if b then Some (outcome.Change path (path_weight c.survey.fields path)
+        (record { leaves = certificate_of c (if nat_lt 0 (path_weight c.survey.fields path) then taken else []) })) else None)
         → (Open ≡ Open) × (path ≡ chosen)
     by true e = (refl, cc)
     by false e = absurd (cc e)
 
 -- so the source keeps its fields
-pub change-kept : (c : SearchCase) (taken : List (List Bool)) (path : List Bool) (state : PathState) (end : Option Outcome) (o : Outcome) (first second : ℕ → Bool) → end ≡ end_by c taken path state → end ≡ Some o
+pub change-kept : (c : SearchCase) (taken : List (List Bool)) (path : List Bool) (state : PathState) (end : Option Outcome) (o : Outcome)
+    (first second : ℕ → Bool) → end ≡ end_by c taken path state → end ≡ Some o
     → ((f : ℕ) → first f ≡ true → second f ≡ true) → (state ≡ Open → KeepsChanged first c path) → KeepsChange second c o
 change-kept c taken path state end o first second told is more kept chosen weight cert change =
     let (opened, same) = change-open c taken path state chosen weight cert (ap (λ (x : Outcome). Some x) (sym change) ∙ sym is ∙ told) in

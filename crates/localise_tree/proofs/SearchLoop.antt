@@ -30,17 +30,23 @@ module _ (c : SearchCase) (budget : ℕ) where
     searching : IsSearching c budget taken (path ∷ rest)
     searching = subst (λ (ps : List (List Bool)). IsSearching c budget taken ps) is before
 
-    turn : (unwrap_or (end_at c budget taken path) (outcome_from c budget (taken ++ path ∷ []) (in_order (is_before c.survey.fields) (reached_beyond c (next_paths c path ++ rest))))) ≡ outcome_of c budget
-    turn = sym (search-turn c budget taken path (path ∷ rest) rest (searching.fit path (inl refl)) (IsPermutation-refl (path ∷ rest)) searching.sorted.0) ∙ searching.rest
+    turn : (unwrap_or (end_at c budget taken path) (outcome_from c budget (taken ++ path ∷ [])
+        (in_order (is_before c.survey.fields) (reached_beyond c (next_paths c path ++ rest))))) ≡ outcome_of c budget
+    turn =
+        sym (search-turn c budget taken path (path ∷ rest) rest (searching.fit path (inl refl)) (IsPermutation-refl (path ∷ rest)) searching.sorted.0)
+        ∙ searching.rest
 
     pub searching-ends : (o : Outcome) → end_at c budget taken path ≡ Some o → o ≡ outcome_of c budget
-    searching-ends o e = ap (λ end. (unwrap_or end (outcome_from c budget (taken ++ path ∷ []) (in_order (is_before c.survey.fields) (reached_beyond c (next_paths c path ++ rest)))))) (sym e) ∙ turn
+    searching-ends o e =
+        ap (λ end. (unwrap_or end (outcome_from c budget (taken ++ path ∷ [])
+        (in_order (is_before c.survey.fields) (reached_beyond c (next_paths c path ++ rest)))))) (sym e) ∙ turn
 
     module _ (new : List (List Bool)) (made : new ≡ fold (placed (is_before c.survey.fields)) rest (next_paths c path)) where
       same : in_order (is_before c.survey.fields) (reached_beyond c new) ≡ in_order (is_before c.survey.fields) (reached_beyond c (next_paths c path ++ rest))
       same =
           ap (λ (ps : List (List Bool)). in_order (is_before c.survey.fields) (reached_beyond c ps)) made
-          ∙ same_ends c _ _ (IsPermutation-sym _ _ (permuted-folded (is_before c.survey.fields) (before-total c) (before-chain c) (before-equal c) rest (next_paths c path)))
+          ∙ same_ends c _ _ (IsPermutation-sym _ _ (permuted-folded (is_before c.survey.fields) (before-total c) (before-chain c) (before-equal c) rest
+          (next_paths c path)))
 
       pub searching-turn : (after : List (List Bool)) → end_at c budget taken path ≡ None → after ≡ taken ++ path ∷ [] → IsSearching c budget after new
       searching-turn after none more = record {
@@ -51,7 +57,8 @@ module _ (c : SearchCase) (budget : ℕ) where
         rest =
             ap (λ (ps : List (List Bool)). outcome_from c budget ps (in_order (is_before c.survey.fields) (reached_beyond c new))) more
             ∙ ap (λ (ps : List (List Bool)). outcome_from c budget (taken ++ path ∷ []) ps) same
-            ∙ ap (λ end. (unwrap_or end (outcome_from c budget (taken ++ path ∷ []) (in_order (is_before c.survey.fields) (reached_beyond c (next_paths c path ++ rest)))))) (sym none) ∙ turn;
+            ∙ ap (λ end. (unwrap_or end (outcome_from c budget (taken ++ path ∷ [])
+            (in_order (is_before c.survey.fields) (reached_beyond c (next_paths c path ++ rest)))))) (sym none) ∙ turn;
       }
         where
           new-fit : (x : List Bool) → IsIn x (fold (placed (is_before c.survey.fields)) rest (next_paths c path)) → length x ≤ field_count c
@@ -63,4 +70,9 @@ module _ (c : SearchCase) (budget : ℕ) where
       pub searching-less : left c new < left c ends
       searching-less =
           let first = first-end c path (path ∷ rest) rest (searching.fit path (inl refl)) (IsPermutation-refl (path ∷ rest)) searching.sorted.0 in
-          omega (arith, ap (λ (ps : List (List Bool)). length ps) same, ap (λ (ps : List (List Bool)). length ps) first, ap (λ (ps : List (List Bool)). left c ps) is)
+          omega (
+            arith,
+            ap (λ (ps : List (List Bool)). length ps) same,
+            ap (λ (ps : List (List Bool)). length ps) first,
+            ap (λ (ps : List (List Bool)). left c ps) is,
+          )

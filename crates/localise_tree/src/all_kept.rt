@@ -1,4 +1,7 @@
-//! Records at which all lines hold: the path that keeps every field is taken at once, and none of its beginnings.
+//! Records at which all lines hold: the path that keeps every field is the answer at once, and none of its
+//! beginnings is looked into. Below, `source` gives derived systems. In contracts, `serves` has the edits
+//! whose systems it gives, and `keeps` the sets of fields whose systems it keeps. `KeepsChange` says that
+//! at a change it keeps the system of the changed numerical fields.
 ghost use Rattle.std.specs.Prelude.{◌≡◌, ◌≤◌, ◌<◌, ℕ, All, IfOk, IfSome, OnOk, length, true};
 ghost use Rattle.std.specs.Arc.{arc_value};
 ghost use Rattle.std.specs.List.{list_any};
@@ -12,6 +15,7 @@ ghost use Rattle.edit_paths.specs.Outcomes.{outcome_of};
 ghost use Rattle.localise_tree.specs.KeptFields.{KeepsChange};
 ghost use Rattle.localise_tree.specs.inner.AllKept.{all_hold_at, all_kept, codes_of_row, holds_at, holds_throughout};
 
+use crate::task::Task;
 use bound_cert::{Cert, Leaf, LeafWhy, Outcome, Path};
 use edit_line::{Derived, Edits, Line, fails, has_code};
 use edit_model::{FieldSet, Row, Survey, Value};
@@ -22,37 +26,39 @@ use std::alloc::Global;
 use std::sync::Arc;
 use std::sync::ledger::Ledger;
 
-/// The outcome of a record at which all lines hold, where the budget is above the number of fields: nothing is changed. It is
-/// that of the search, whose first paths keep all their fields. None of any other record.
-pub(crate) fn unchanged<S: Systems, L: Ledger>(
+/// The outcome of a record at which all lines hold, where the budget is above the number of fields:
+/// nothing is changed. It is that of the search, whose first paths keep all their fields. None where a
+/// line does not hold in range, a value is missing, or the budget is no greater; then the search has to
+/// tell.
+pub(crate) fn find_unchanged<S: Systems, L: Ledger>(
     alloc: Global,
     source: &mut S,
-    survey: &Survey,
-    edits: &Arc<Edits>,
-    row: &Row,
-    budget: u64,
+    task: &Task,
     steps: &mut Steps<L>,
 ) -> Result<Option<Outcome>, OutOfMemory>
-    requires row { IsRow survey.now.fields row.now }
-    requires shape { (arc_value edits.now).shape ≡ shape_of survey.now.fields }
-    requires served { S.serves source.old (arc_value edits.now) }
+    requires row { IsRow task.now.survey.now.fields task.now.row.now }
+    requires shape { (arc_value task.now.edits.now).shape ≡ shape_of task.now.survey.now.fields }
+    requires served { S.serves source.old (arc_value task.now.edits.now) }
     ensures exact { IfOk result (λ told. IfSome told
-        (λ o. o ≡ outcome_of (case_of survey.now (arc_value edits.now) row.now) budget)) }
+        (λ o. o ≡ outcome_of (case_of task.now.survey.now (arc_value task.now.edits.now) task.now.row.now) task.now.budget)) }
     ensures kept { IfOk result (λ told. IfSome told
-        (KeepsChange (S.keeps source.new) (case_of survey.now (arc_value edits.now) row.now))) }
+        (KeepsChange (S.keeps source.new) (case_of task.now.survey.now (arc_value task.now.edits.now) task.now.row.now))) }
     ensures serves { (e : EditsParts) → S.serves source.old e → S.serves source.new e }
     ensures keeps { (f : ℕ) → S.keeps source.old f ≡ true → S.keeps source.new f ≡ true }
     ensures counts { steps.old ≤ steps.new }
 {
-    case_known(survey, edits, row);
-    if survey.fields().len() as u64 >= budget || !holds_throughout(survey, edits, row) {
+    case_known(task.survey, task.edits, task.row);
+    if task.survey.fields().len() as u64 >= task.budget
+        || !holds_throughout(task.survey, task.edits, task.row)
+    {
         return Ok(None);
     }
-    ask_for_start(alloc, source, edits, steps)?;
-    Ok(Some(all_kept(alloc, survey.fields().len())?))
+    ask_for_start(alloc, source, task.edits, steps)?;
+    Ok(Some(all_kept(alloc, task.survey.fields().len())?))
 }
 
-// Asks for the system of no field, so that the source keeps it. No field is eliminated, so no number leaves the range.
+// Asks for the system of no field, so that the source keeps it. No field is eliminated, so no number leaves
+// the range.
 fn ask_for_start<S: Systems, L: Ledger>(
     alloc: Global,
     source: &mut S,
@@ -71,7 +77,8 @@ fn ask_for_start<S: Systems, L: Ledger>(
     }
 }
 
-// The change of nothing, of this number of fields.
+// The outcome that changes none of `count` fields. Its certificate is one leaf: no correction weighs less
+// than 0.
 fn all_kept(alloc: Global, count: usize) -> Result<Outcome, OutOfMemory>
     ensures { IfOk result (λ o. o ≡ all_kept count) }
 {
@@ -90,7 +97,8 @@ fn all_kept(alloc: Global, count: usize) -> Result<Outcome, OutOfMemory>
     })
 }
 
-// Whether each field has a value, and all lines hold.
+// Whether each field of the record has a value, and all reduced lines of the edits hold there, with their
+// sums in range.
 fn holds_throughout(survey: &Survey, edits: &Arc<Edits>, row: &Row) -> bool
     requires case { IsCase (case_of survey.now (arc_value edits.now) row.now) }
     ensures { result ≡ holds_throughout (case_of survey.now (arc_value edits.now) row.now) }
@@ -98,7 +106,7 @@ fn holds_throughout(survey: &Survey, edits: &Arc<Edits>, row: &Row) -> bool
     !has_bad(row.values()) && all_hold(survey, edits.reduced(), row)
 }
 
-// Whether some value is Bad.
+// Whether some field has no value.
 fn has_bad(values: &[Value]) -> bool
     ensures { result ≡ list_any is_bad values.now }
 {
@@ -116,7 +124,8 @@ fn all_hold(survey: &Survey, lines: &[Derived], row: &Row) -> bool
         .all(|derived| holds_at(survey, &derived.line, row))
 }
 
-// Whether the line holds at the record, and its sum stays in range.
+// Whether the line holds at the record, and its sum stays in range. Where the linear part fails, the line
+// still holds if the record's codes are not in its sets.
 fn holds_at(survey: &Survey, line: &Line, row: &Row) -> bool
     requires row { IsRow survey.now.fields row.now }
     requires over { HasShape (shape_of survey.now.fields) line.now }
@@ -129,7 +138,8 @@ fn holds_at(survey: &Survey, line: &Line, row: &Row) -> bool
     }
 }
 
-// Whether each of the record's codes at the fields is in its set.
+// Whether each of the record's codes at the fields is in its set. A value that is no code counts as code
+// 0. `sets` has one set for each of `fields`.
 #[tactic(auto, using(crate::proofs::CodeTests::codes_more, crate::proofs::CodeTests::codes_past))]
 fn is_for(fields: &[u32], sets: &[u64], row: &Row) -> bool
     requires count { length sets.now ≡ length fields.now }

@@ -1,3 +1,11 @@
+//! The best-first search for one record: the ends are taken by weight, and an open path leads on to two,
+//! each with one letter more. A letter of a path says of one field whether it is kept (false) or changed
+//! (true).
+//!
+//! Below, `source` gives derived systems, and `steps` counts the pairs of lines that are combined for
+//! them. In contracts, `serves` has the edits whose systems it gives, and `keeps` the sets of fields whose
+//! systems it keeps. `KeepsChange` says that at a change it keeps the system of the changed numerical
+//! fields. `outcome_of` has the outcome that `edit_paths` defines.
 ghost use Rattle.std.specs.Prelude.{◌≡◌, ◌≤◌, ℕ, IfOk, true};
 ghost use Rattle.std.specs.Arc.{arc_value};
 ghost use Rattle.std.specs.List.{AllByRecursion};
@@ -7,15 +15,17 @@ ghost use Rattle.edit_model.specs.Rows.{IsRow};
 ghost use Rattle.edit_paths.specs.Cases.{case_of};
 ghost use Rattle.edit_paths.specs.Certificates.{certificate_of};
 ghost use Rattle.edit_paths.specs.Outcomes.{end_by, outcome_of};
-ghost use Rattle.edit_paths.specs.Answers.{Certifies, ChoosesFirst, ChoosesLeast, FindsChange, IsBudgetEnough, NoneMeets, ShowsContradiction};
+ghost use Rattle.edit_paths.specs.Answers.{Certifies, ChoosesFirst, ChoosesLeast, FindsChange, IsBudgetEnough};
+ghost use Rattle.edit_paths.specs.Answers.{NoneMeets, ShowsContradiction};
 ghost use Rattle.path_walk.specs.Problems.{IsProblem, case_in, edits_in};
 ghost use Rattle.localise_tree.specs.KeptFields.{KeepsChange};
 ghost use Rattle.localise_tree.specs.inner.Nodes.{IsNode};
 ghost use Rattle.localise_tree.specs.inner.Takens.{IsTaken, taken_for, taken_paths};
 
-use crate::all_kept::unchanged;
+use crate::all_kept::find_unchanged;
 use crate::certificates::certificate;
 use crate::ends::{Node, first_end, lead_on, take_first};
+use crate::task::Task;
 use bound_cert::{Cert, Outcome, Path};
 use edit_line::Edits;
 use edit_model::{Row, Survey};
@@ -27,11 +37,11 @@ use std::alloc::Global;
 use std::sync::Arc;
 use std::sync::ledger::Ledger;
 
-/// The most lines and boxes that are kept of the paths that were taken for a record. Those of further paths are made again
-/// where the certificate needs them, so that the memory for a record stays bounded.
+/// The most lines and boxes that are kept of the paths that were taken for a record. Those of further paths
+/// are made again where the certificate needs them, so that the memory for a record stays bounded.
 const MOST_KEPT: usize = 100_000;
 
-/// A path that was taken, what became of it, and its basis, if that was kept.
+/// A path that was taken, what became of it, and its basis, where there was room to keep that.
 #[derive(Drop)]
 pub(crate) struct Taken {
     pub(crate) path: Path,
@@ -39,9 +49,18 @@ pub(crate) struct Taken {
     pub(crate) basis: Option<Basis>,
 }
 
-/// What is found of the record: the reached paths are taken by weight, and then letter by letter; the first
-/// that is open and says something of all fields is the answer, with its certificate. The search ends before
-/// a path with which the work would pass the budget, and at a path for which a number leaves the range.
+/// A path that was reached, and its state.
+#[derive(Clone, Copy)]
+struct Reached<'a> {
+    node: &'a Node,
+    state: PathState,
+}
+
+/// The outcome of the record's search by these edits. The reached paths are taken by weight, and then
+/// letter by letter. The first that is open and says something of all fields is the answer, with its
+/// certificate. The search ends before a path with which the work would pass `budget`, and at a path for
+/// which a number leaves the range. Where all are taken and none is the answer, the record is
+/// contradictory. What the clauses `choice` to `found` say of it is said at `edit_paths::outcome_laws`.
 pub fn localise<S: Systems, L: Ledger>(
     alloc: Global,
     source: &mut S,
@@ -68,43 +87,49 @@ pub fn localise<S: Systems, L: Ledger>(
     ensures counts { steps.old ≤ steps.new }
 {
     case_known(survey, edits, row);
-    found(alloc, source, survey, edits, row, budget, steps)
+    let task = Task {
+        survey,
+        edits,
+        row,
+        budget,
+    };
+    find_outcome(alloc, source, &task, steps)
 }
 
-// What is found of the record: nothing is searched where all lines hold there.
-fn found<S: Systems, L: Ledger>(
+// What is found of the record: nothing is searched where `find_unchanged` has the outcome.
+fn find_outcome<S: Systems, L: Ledger>(
     alloc: Global,
     source: &mut S,
-    survey: &Survey,
-    edits: &Arc<Edits>,
-    row: &Row,
-    budget: u64,
+    task: &Task,
     steps: &mut Steps<L>,
 ) -> Result<Outcome, OutOfMemory>
-    requires row { IsRow survey.now.fields row.now }
-    requires shape { (arc_value edits.now).shape ≡ shape_of survey.now.fields }
-    requires served { S.serves source.old (arc_value edits.now) }
-    ensures exact { IfOk result (λ o. o ≡ outcome_of (case_of survey.now (arc_value edits.now) row.now) budget) }
-    ensures kept { IfOk result (KeepsChange (S.keeps source.new) (case_of survey.now (arc_value edits.now) row.now)) }
+    requires row { IsRow task.now.survey.now.fields task.now.row.now }
+    requires shape { (arc_value task.now.edits.now).shape ≡ shape_of task.now.survey.now.fields }
+    requires served { S.serves source.old (arc_value task.now.edits.now) }
+    ensures exact { IfOk result (λ o. o ≡ outcome_of
+        (case_of task.now.survey.now (arc_value task.now.edits.now) task.now.row.now) task.now.budget) }
+    ensures kept { IfOk result (KeepsChange (S.keeps source.new)
+        (case_of task.now.survey.now (arc_value task.now.edits.now) task.now.row.now)) }
     ensures serves { (e : EditsParts) → S.serves source.old e → S.serves source.new e }
     ensures keeps { (f : ℕ) → S.keeps source.old f ≡ true → S.keeps source.new f ≡ true }
     ensures counts { steps.old ≤ steps.new }
 {
-    if let Some(outcome) = unchanged(alloc, source, survey, edits, row, budget, steps)? {
+    if let Some(outcome) = find_unchanged(alloc, source, task, steps)? {
         return Ok(outcome);
     }
-    case_known(survey, edits, row);
-    let wholes = edits.shape().whole_sets(alloc)?;
+    case_known(task.survey, task.edits, task.row);
+    let wholes = task.edits.shape().whole_sets(alloc)?;
     let problem = Problem {
-        survey,
-        edits,
-        row,
+        survey: task.survey,
+        edits: task.edits,
+        row: task.row,
         wholes: &wholes,
     };
-    search(alloc, source, &problem, budget, steps)
+    search(alloc, source, &problem, task.budget, steps)
 }
 
-// What is found of the record of the problem.
+// The outcome of the problem's record. The first end is taken, again and again, until one ends the search
+// or none is left. Of the taken paths at most `MOST_KEPT` lines and boxes are kept.
 fn search<S: Systems, L: Ledger>(
     alloc: Global,
     source: &mut S,
@@ -142,7 +167,8 @@ fn search<S: Systems, L: Ledger>(
         };
         let state = look.state;
         spent += look.work;
-        if let Some(outcome) = end_by(alloc, source, problem, &taken, &node, state, steps)? {
+        let reached = Reached { node: &node, state };
+        if let Some(outcome) = end_by(alloc, source, problem, &taken, reached, steps)? {
             return Ok(outcome);
         }
         let basis = look.kept_basis(&mut room)?;
@@ -158,27 +184,29 @@ fn search<S: Systems, L: Ledger>(
     })
 }
 
-// Where a path of this state ends the search: a number leaves the range, or it is open and says something of
-// all fields.
+// The outcome by which the path `end`, of its state, ends the search. A number leaves the range, or the
+// path is open and says something of all fields. None where the search goes on. `taken` has the paths that
+// were taken before.
 fn end_by<S: Systems, L: Ledger>(
     alloc: Global,
     source: &mut S,
     problem: &Problem,
     taken: &[Taken],
-    node: &Node,
-    state: PathState,
+    end: Reached,
     steps: &mut Steps<L>,
 ) -> Result<Option<Outcome>, OutOfMemory>
     requires problem { IsProblem problem.now }
     requires served { S.serves source.old (edits_in problem.now) }
     requires taken { AllByRecursion (IsTaken (case_in problem.now)) taken.now }
-    requires node { IsNode (case_in problem.now) node.now }
-    ensures end { IfOk result (λ end. end ≡ end_by (case_in problem.now) (taken_paths taken.now) node.now.path state) }
+    requires node { IsNode (case_in problem.now) end.node.now }
+    ensures end { IfOk result (λ told. told
+        ≡ end_by (case_in problem.now) (taken_paths taken.now) end.entry.node.now.path end.entry.state) }
     ensures serves { (e : EditsParts) → S.serves source.old e → S.serves source.new e }
     ensures keeps { (f : ℕ) → S.keeps source.old f ≡ true → S.keeps source.new f ≡ true }
     ensures counts { steps.old ≤ steps.new }
 {
-    match state {
+    let node = end.node;
+    match end.state {
         PathState::Overflows(event) => Ok(Some(Outcome::Overflow {
             path: copy_of(alloc, &node.path)?,
             event,
@@ -197,14 +225,15 @@ fn end_by<S: Systems, L: Ledger>(
     }
 }
 
-// An equal path.
+// An equal path, for the outcome.
 fn copy_of(alloc: Global, path: &Path) -> Result<Path, OutOfMemory>
     ensures { IfOk result (λ copy. copy ≡ path.now) }
 {
     Ok(Path::new(Vec::from_slice(alloc, path.letters())?))
 }
 
-// The certificate of a change of this weight; where nothing is changed there is nothing to prove.
+// The certificate of a change of this weight, by the paths that were taken before it. A change that weighs
+// nothing needs none of them, since no correction weighs less.
 fn change_certificate<S: Systems, L: Ledger>(
     alloc: Global,
     source: &mut S,

@@ -1,4 +1,13 @@
-//! The certificate of an outcome: the leaves of the tree of the paths that were taken.
+//! The certificate of an outcome: the leaves of the tree of the paths that were taken. Each has the reason
+//! why nothing below it has to be looked at. A letter of a path says of one field whether it is kept
+//! (false) or changed (true).
+//!
+//! Below, `source` gives derived systems, and `steps` counts the pairs of lines that are combined for
+//! them. In contracts, `serves` has the edits whose systems it gives, and `keeps` the sets of fields whose
+//! systems it keeps. `IsProblem` says that a problem's parts fit, and `IsTaken` that a taken path has its
+//! state and a basis that is right. `IsKnown` says that places are those of the taken paths, `IsKnownBasis`
+//! that a basis, if there is one, is the path's, and `HasListsBefore` that lists lead to what the path
+//! before the last letter has. `leaves_below` has the leaves of the tree from a path on.
 ghost use Rattle.std.specs.Prelude.{◌≡◌, ◌≤◌, ◌++◌, ℕ, IfOk, OnOk, length, true};
 ghost use Rattle.std.specs.List.{AllByRecursion};
 ghost use Rattle.std.specs.Option.{option_copied};
@@ -21,8 +30,23 @@ use path_walk::{Bases, Basis, Problem, field_count, push_lists};
 use std::alloc::Global;
 use std::sync::ledger::Ledger;
 
-/// The certificate, where these paths were taken before the outcome: the leaves of their tree, letter by
-/// letter, kept before changed.
+/// What a tree is made of: the problem, and the paths that were taken.
+#[derive(Clone, Copy)]
+struct Tree<'a> {
+    problem: &'a Problem<'a>,
+    known: &'a Known<'a>,
+}
+
+/// A walk through a tree: the letters of the path that it has come to, the lists that lead there, and the leaves so far.
+#[derive(Drop)]
+struct TreeWalk {
+    letters: Vec<bool>,
+    levels: Vec<Level>,
+    leaves: Vec<Leaf>,
+}
+
+/// The certificate of an outcome before which just these paths were taken: the leaves of their tree, letter
+/// by letter, kept before changed.
 pub(crate) fn certificate<S: Systems, L: Ledger>(
     alloc: Global,
     source: &mut S,
@@ -42,88 +66,88 @@ pub(crate) fn certificate<S: Systems, L: Ledger>(
         taken,
         places: places_of(alloc, taken)?,
     };
-    let mut letters = Vec::new(alloc);
-    let mut levels = Vec::new(alloc);
-    let mut leaves = Vec::new(alloc);
-    push_leaves(
-        alloc,
-        source,
+    let tree = Tree {
         problem,
-        &known,
-        None,
-        &mut letters,
-        &mut levels,
-        &mut leaves,
-        steps,
-    )?;
+        known: &known,
+    };
+    let mut walk = TreeWalk {
+        letters: Vec::new(alloc),
+        levels: Vec::new(alloc),
+        leaves: Vec::new(alloc),
+    };
+    push_leaves(alloc, source, &tree, None, &mut walk, steps)?;
     Ok(Cert {
-        leaves: Sequence::from_vec(leaves),
+        leaves: Sequence::from_vec(walk.leaves),
     })
 }
 
-// Appends the leaves of the tree from the path of these letters on. The levels are the lists that lead to
-// the path before its last letter.
+// Appends the leaves of the tree from the path of the walk's letters on. A path that was not taken is a
+// leaf by its weight. An open one that does not yet say something of all fields goes on, first with its
+// next field kept and then with it changed. Any other is a leaf where its state closes it. `walk.levels`
+// has the lists that lead to the path before its last letter. `parent` is the basis of that path; where
+// it is None, what is needed of it is made again. Letters and levels are afterwards as before.
 fn push_leaves<S: Systems, L: Ledger>(
     alloc: Global,
     source: &mut S,
-    problem: &Problem,
-    known: &Known,
+    tree: &Tree,
     parent: Option<&Basis>,
-    letters: &mut Vec<bool>,
-    levels: &mut Vec<Level>,
-    leaves: &mut Vec<Leaf>,
+    walk: &mut TreeWalk,
     steps: &mut Steps<L>,
 ) -> Result<(), OutOfMemory>
-    requires problem { IsProblem problem.now }
-    requires served { S.serves source.old (edits_in problem.now) }
-    requires known { IsKnown known.now }
-    requires taken { AllByRecursion (IsTaken (case_in problem.now)) known.now.taken.now }
-    requires fit { length letters.old.items ≤ field_count (case_in problem.now) }
-    requires parent { IsKnownBasis (case_in problem.now) (before_last letters.old.items) (option_copied parent) }
-    requires before { HasListsBefore (case_in problem.now) letters.old.items levels.old.items }
-    ensures letters { OnOk result (letters.new.items ≡ letters.old.items) }
-    ensures levels { OnOk result (levels.new.items ≡ levels.old.items) }
+    requires problem { IsProblem tree.now.problem.now }
+    requires served { S.serves source.old (edits_in tree.now.problem.now) }
+    requires known { IsKnown tree.now.known.now }
+    requires taken { AllByRecursion (IsTaken (case_in tree.now.problem.now)) tree.now.known.now.taken.now }
+    requires fit { length walk.old.letters.items ≤ field_count (case_in tree.now.problem.now) }
+    requires parent { IsKnownBasis (case_in tree.now.problem.now) (before_last walk.old.letters.items) (option_copied parent) }
+    requires before { HasListsBefore (case_in tree.now.problem.now) walk.old.letters.items walk.old.levels.items }
+    ensures letters { OnOk result (walk.new.letters.items ≡ walk.old.letters.items) }
+    ensures levels { OnOk result (walk.new.levels.items ≡ walk.old.levels.items) }
     ensures leaves { OnOk result
-        (leaves.new.items ≡ leaves.old.items ++ leaves_below (case_in problem.now) (taken_paths known.now.taken.now) letters.old.items) }
+        (walk.new.leaves.items ≡ walk.old.leaves.items ++ leaves_below (case_in tree.now.problem.now)
+        (taken_paths tree.now.known.now.taken.now) walk.old.letters.items) }
     ensures serves { (e : EditsParts) → S.serves source.old e → S.serves source.new e }
     ensures keeps { (f : ℕ) → S.keeps source.old f ≡ true → S.keeps source.new f ≡ true }
     ensures counts { steps.old ≤ steps.new }
 {
-    let Some(taken) = taken_path(known, letters) else {
-        push_leaf(alloc, letters, LeafWhy::Bound, leaves)?;
+    let Some(taken) = taken_path(tree.known, &walk.letters) else {
+        push_leaf(alloc, &walk.letters, LeafWhy::Bound, &mut walk.leaves)?;
         return Ok(());
     };
-    let before = levels.len();
+    let before = walk.levels.len();
     let own = taken.basis.as_ref();
     push_lists(
         alloc,
         source,
-        problem,
-        letters,
+        tree.problem,
+        &walk.letters,
         Bases { own, parent },
-        levels,
+        &mut walk.levels,
         steps,
     )?;
-    if taken.state.is_open() && letters.len() < field_count(problem) {
-        letters.push(false)?;
-        push_leaves(
-            alloc, source, problem, known, own, letters, levels, leaves, steps,
-        )?;
-        letters.pop();
-        letters.push(true)?;
-        push_leaves(
-            alloc, source, problem, known, own, letters, levels, leaves, steps,
-        )?;
-        letters.pop();
-        levels.truncate(before);
+    if taken.state.is_open() && walk.letters.len() < field_count(tree.problem) {
+        walk.letters.push(false)?;
+        push_leaves(alloc, source, tree, own, walk, steps)?;
+        walk.letters.pop();
+        walk.letters.push(true)?;
+        push_leaves(alloc, source, tree, own, walk, steps)?;
+        walk.letters.pop();
+        walk.levels.truncate(before);
         return Ok(());
     }
-    push_closed(alloc, taken.state, letters, levels, leaves)?;
-    levels.truncate(before);
+    push_closed(
+        alloc,
+        taken.state,
+        &walk.letters,
+        &walk.levels,
+        &mut walk.leaves,
+    )?;
+    walk.levels.truncate(before);
     Ok(())
 }
 
-// Appends the leaf of the path, where this is the state that closes it, by the lists that lead to it.
+// Appends the leaf of a path that this state closes; the levels are the lists from which the steps of its
+// reason are written. A state that closes nothing has no leaf.
 fn push_closed(
     alloc: Global,
     state: PathState,
@@ -147,7 +171,7 @@ fn push_closed(
     }
 }
 
-// Appends a leaf.
+// Appends a leaf of the path of these letters, with this reason.
 fn push_leaf(
     alloc: Global,
     letters: &[bool],

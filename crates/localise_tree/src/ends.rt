@@ -1,3 +1,11 @@
+//! The ends of a search: the reached paths that are not yet taken. They stand in the order in which they
+//! are taken, by weight and then letter by letter. A letter says of one field whether it is kept (false)
+//! or changed (true).
+//!
+//! In contracts, `IsProblem` says that a problem's parts fit, and `IsNode` that a node's path is reached
+//! and its weight and basis are right. `AreKept` and `StayKept` say that the source keeps the systems of
+//! the paths before the ends. `IsPartitionedBy` says that those of the ends that pass a test stand in
+//! front of the others.
 ghost use Rattle.std.specs.Prelude.{◌≡◌, ℕ, ◌&&◌, ◌≤◌, ◌<◌, ◌++◌, [], ◌∷◌, IfNone, IfOk, IfSome, OnOk, if◌then◌else◌, length, not, true};
 ghost use Rattle.std.specs.List.{AllByRecursion, insert};
 ghost use Rattle.std.specs.List.Sorted.{IsPartitionedBy};
@@ -33,7 +41,7 @@ pub(crate) struct Node {
 }
 
 impl Node {
-    /// Its path. No memory.
+    /// Its path, where the rest of the node is needed no more. No memory.
     pub(crate) fn into_path(self) -> Path
         ensures { result ≡ self.path }
     {
@@ -41,7 +49,8 @@ impl Node {
     }
 }
 
-/// The empty path alone.
+/// The ends from which a search begins: the empty path alone, with the lines of the edits as its basis.
+/// The source gives these, as the system of no field.
 pub(crate) fn first_end<S: Systems, L: Ledger>(
     alloc: Global,
     source: &mut S,
@@ -64,7 +73,7 @@ pub(crate) fn first_end<S: Systems, L: Ledger>(
     }
 }
 
-// The empty path alone, with the system of no field.
+// The empty path alone, where `held` is the system of no field, which is its basis.
 fn one_end(alloc: Global, held: Held) -> Result<VecDeque<Node>, OutOfMemory>
     ensures { IfOk result (λ ends. IsFirstEnd held ends.items) }
 {
@@ -78,7 +87,7 @@ fn one_end(alloc: Global, held: Held) -> Result<VecDeque<Node>, OutOfMemory>
     Ok(ends)
 }
 
-/// Takes the first end out of the list. No memory.
+/// Takes the first end, which is that of least weight, out of the list; None where none is left. No memory.
 pub(crate) fn take_first(ends: &mut VecDeque<Node>) -> Option<Node>
     ensures some { IfSome result (λ node. ends.old.items ≡ node ∷ ends.new.items) }
     ensures none { IfNone result (ends.old.items ≡ []) }
@@ -86,7 +95,9 @@ pub(crate) fn take_first(ends: &mut VecDeque<Node>) -> Option<Node>
     ends.pop_front()
 }
 
-/// Puts the paths that the path leads on to among the ends, in order.
+/// Puts the two paths with one letter more than the node's among the ends, in order; both have the look's
+/// basis. Nothing is put there where the look found the node's path not open, or where this path says
+/// something of all fields.
 pub(crate) fn lead_on(
     alloc: Global,
     problem: &Problem,
@@ -115,7 +126,8 @@ pub(crate) fn lead_on(
     Ok(())
 }
 
-// Whether the path of this state leads on: it is open, and does not say something of all fields.
+// Whether the node's path, of this state, leads on to longer ones: it is open, and does not say something
+// of all fields.
 fn leads_on(problem: &Problem, node: &Node, state: PathState) -> bool
     requires problem { IsProblem problem.now }
     ensures { result ≡ (is_open state && not (is_complete (case_in problem.now) node.now.path)) }
@@ -123,7 +135,8 @@ fn leads_on(problem: &Problem, node: &Node, state: PathState) -> bool
     state.is_open() && node.path.letters().len() != field_count(problem)
 }
 
-// The path with one field more, kept or changed.
+// The node of the path with one letter more, by which its next field is kept or changed. `before` is the
+// basis of the path without that letter.
 fn child(
     alloc: Global,
     problem: &Problem,
@@ -148,7 +161,8 @@ fn child(
     })
 }
 
-// What the field at this place of the path order adds to the weight of a path.
+// What a letter at this place of the path order adds to a path's weight: the field's weight, or 0 where it
+// is kept.
 fn changed_weight(problem: &Problem, place: usize, changed: bool) -> u64
     requires problem { IsProblem problem.now }
     requires place { place < field_count (case_in problem.now) }
@@ -162,7 +176,7 @@ fn changed_weight(problem: &Problem, place: usize, changed: bool) -> u64
     u64::from(fields[problem.survey.path_field(place as u32) as usize].weight)
 }
 
-// The letters and one more.
+// A new list of the letters and one more behind them.
 fn with_letter(alloc: Global, letters: &[bool], letter: bool) -> Result<Vec<bool>, OutOfMemory>
     ensures { IfOk result (λ more. more.items ≡ letters.now ++ letter ∷ []) }
 {
@@ -172,8 +186,8 @@ fn with_letter(alloc: Global, letters: &[bool], letter: bool) -> Result<Vec<bool
     Ok(more)
 }
 
-// Puts the end behind those that come before it. They stand in front of all others, so that half of the ends are passed
-// over at each look, and the shorter part of them moves.
+// Puts the node behind the ends that come before it. Since these stand in front of all others, its place is
+// found by halving. The list moves its shorter part.
 fn place_end(ends: &mut VecDeque<Node>, node: Node) -> Result<(), OutOfMemory>
     requires { IsPartitionedBy (λ end. before end node) ends.old.items }
     ensures { OnOk result (ends.new.items ≡ placed before ends.old.items node) }
@@ -183,7 +197,7 @@ fn place_end(ends: &mut VecDeque<Node>, node: Node) -> Result<(), OutOfMemory>
     Ok(())
 }
 
-// How many of the ends come before the node.
+// How many of the ends come before the node; they stand in front of all others.
 fn before_count(ends: &VecDeque<Node>, node: &Node) -> usize
     requires { IsPartitionedBy (λ end. before end node.now) ends.now.items }
     ensures place { insert ends.now.items result node.now ≡ placed before ends.now.items node.now }
@@ -192,7 +206,8 @@ fn before_count(ends: &VecDeque<Node>, node: &Node) -> usize
     ends.partition_point(|end| comes_before(end, node))
 }
 
-// Whether the first path comes before the second, or is the same.
+// Whether the first path comes before the second, or is the same: the lighter one first, of equal weights
+// letter by letter.
 fn comes_before(first: &Node, second: &Node) -> bool
     ensures { result ≡ before first.now second.now }
 {
@@ -200,7 +215,8 @@ fn comes_before(first: &Node, second: &Node) -> bool
         || first.weight == second.weight && is_first(first.path.letters(), second.path.letters())
 }
 
-// Whether the first word comes before the second letter by letter, or is the same.
+// Whether the first path comes before the second letter by letter, or is the same. Kept comes before
+// changed, and a beginning of a path before the path.
 fn is_first(first: &[bool], second: &[bool]) -> bool
     ensures { result ≡ is_first first.now second.now }
 {

@@ -1,4 +1,5 @@
-//! The paths that were taken, found by their letters.
+//! The paths that were taken in a search, found by their letters: false for a kept field, true for a
+//! changed one.
 ghost use Rattle.std.specs.Prelude.{◌≡◌, ◌≤◌, false, IfNone, IfOk, IfSome, length};
 ghost use Rattle.std.specs.List.{AllByRecursion};
 ghost use Rattle.edit_paths.specs.Certificates.{has_path};
@@ -10,14 +11,15 @@ use foundation::OutOfMemory;
 use std::alloc::Global;
 use std::collections::BTreeMap;
 
-/// Paths that were taken, and the place of each among them, by the number of its letters.
+/// Paths that were taken, and the place of each among them. The places are found by the paths' letters,
+/// read as one number.
 #[derive(Drop)]
 pub(crate) struct Known<'a> {
     pub(crate) taken: &'a [Taken],
     pub(crate) places: BTreeMap<u128, usize>,
 }
 
-/// The place of each path that was taken, by the number of its letters.
+/// The place of each path among those that were taken, by its letters, read as one number.
 pub(crate) fn places_of(
     alloc: Global,
     taken: &[Taken],
@@ -33,7 +35,7 @@ pub(crate) fn places_of(
     Ok(places)
 }
 
-/// The path of these letters, if it was taken. No memory.
+/// The path of these letters among those that were taken, None where it was not taken. No memory.
 pub(crate) fn taken_path<'a>(known: &Known<'a>, letters: &Vec<bool>) -> Option<&'a Taken>
     requires known { IsKnown known.now }
     requires short { length letters.now.items ≤ 64 }
@@ -46,8 +48,8 @@ pub(crate) fn taken_path<'a>(known: &Known<'a>, letters: &Vec<bool>) -> Option<&
     }
 }
 
-// The letters as one number: a bit for each, the first one lowest, and a 1 behind them, so that other letters have another
-// number. No memory.
+// The letters as one number: a bit for each, the first one lowest, and a 1 behind them, so that other
+// letters have another number. No memory.
 fn letters_number(letters: &[bool]) -> u128
     requires { length letters.now ≤ 64 }
     ensures { result ≡ letters_number letters.now }

@@ -9,5 +9,6 @@ mod best_first;
 mod certificates;
 mod ends;
 mod known;
+mod task;
 
 pub use best_first::localise;

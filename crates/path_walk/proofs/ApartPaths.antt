@@ -20,7 +20,8 @@ module _ (c : SearchCase) (path : List Bool) where
   apart-after : (boxes : List BoxFrom) (f : ℕ) → LieApart (boxes_after c path boxes f)
   apart-after boxes f = by (changes c.survey.fields path f)
     where
-      by : (b : Bool) → LieApart (if b then covered_from (shape_of c.survey.fields) boxes f else fixed_from (shape_of c.survey.fields) boxes f (code_in (value_of c.row f)))
+      by : (b : Bool) → LieApart (if b then covered_from (shape_of c.survey.fields) boxes f else fixed_from (shape_of c.survey.fields) boxes f
+          (code_in (value_of c.row f)))
       by true = apart-covered (shape_of c.survey.fields) boxes f
       by false = apart-fixed (shape_of c.survey.fields) boxes f (code_in (value_of c.row f))
 

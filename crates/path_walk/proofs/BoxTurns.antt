@@ -28,12 +28,16 @@ use Rattle.path_walk.proofs.ProblemLaws.{placed-at}
 
 -- The lists of boxes of a path, from those of the path before its last letter.
 
-module _ (c : SearchCase) (path : List Bool) (before levels : List Level) (level : Level) (field : ℕ) (boxes : List BoxFrom) (push : levels ≡ before ++ level ∷ [])
+module _ (c : SearchCase) (path : List Bool) (before levels : List Level) (level : Level) (field : ℕ) (boxes : List BoxFrom)
+    (push : levels ≡ before ++ level ∷ [])
     (made : makings_of level ≡ map (λ (b : BoxFrom). box_by field b.origin) boxes) (own : own_boxes level ≡ boxes) where
   -- with boxes behind the others
-  box-lists : (history : History) → history_of before ≡ history → with_boxes history field boxes ≡ box_history c path → boxes ≡ boxes_along c path → HasBoxLists c path levels
+  box-lists : (history : History) → history_of before ≡ history → with_boxes history field boxes ≡ box_history c path → boxes ≡ boxes_along c path
+      → HasBoxLists c path levels
   box-lists history is lists along = record {
-    lists = ap (λ (ls : List Level). history_of ls) push ∙ history-last before level ∙ ap (λ (h : History). makings_of level ∷ h) is ∙ ap (λ ms. ms ∷ history) made ∙ lists;
+    lists =
+        ap (λ (ls : List Level). history_of ls) push ∙ history-last before level ∙ ap (λ (h : History). makings_of level ∷ h) is
+        ∙ ap (λ ms. ms ∷ history) made ∙ lists;
     along = ap (λ (ls : List Level). boxes_in ls) push ∙ fold-append (λ (bs : List BoxFrom) (l : Level). own_boxes l) [] before (level ∷ []) ∙ own ∙ along;
   }
 
@@ -41,7 +45,8 @@ module _ (c : SearchCase) (path : List Bool) (before levels : List Level) (level
   pub first-lists : length path ≤ number_count c → history_of before ≡ line_history c path → field ≡ 0 → boxes ≡ boxes_along c path → HasBoxLists c path levels
   first-lists few lines none along =
       box-lists (line_history c path) lists_are
-      (ap (λ f. with_boxes (line_history c path) f boxes) none ∙ ap (λ (bs : List BoxFrom). with_boxes (line_history c path) 0 bs) (along ∙ boxes-first c path few) ∙ sym (box_history-first c path few)) along
+      (ap (λ f. with_boxes (line_history c path) f boxes) none
+      ∙ ap (λ (bs : List BoxFrom). with_boxes (line_history c path) 0 bs) (along ∙ boxes-first c path few) ∙ sym (box_history-first c path few)) along
     where
       lists_are : history_of before ≡ line_history c path
       lists_are = lines
@@ -73,11 +78,14 @@ module _ (c : SearchCase) (letters : List Bool) (many : number_count c < length 
 
   pub last-takes : IsCase c → TakesCodes (shape_of c.survey.fields) (slice_index_or (path_order c.survey.fields) (length letters - 1) 0)
   last-takes is =
-      (treated-code c is (path ++ b ∷ []) f (subst (λ (fs : List ℕ). IsIn f fs) (sym (child-codes c path b short enough ∙ ap (λ g. treated_codes c path ++ g ∷ []) field-is)) (in-right f (treated_codes c path) (f ∷ []) (inl refl)))).0
+      (treated-code c is (path ++ b ∷ []) f (subst (λ (fs : List ℕ). IsIn f fs)
+      (sym (child-codes c path b short enough ∙ ap (λ g. treated_codes c path ++ g ∷ []) field-is))
+      (in-right f (treated_codes c path) (f ∷ []) (inl refl)))).0
 
   -- the boxes after the last letter
   pub last-along : (boxes : List BoxFrom) → boxes ≡ boxes_along c (before_last letters)
-      → boxes_by c (slice_index_or letters (length letters - 1) false) boxes (slice_index_or (path_order c.survey.fields) (length letters - 1) 0) ≡ boxes_along c letters
+      → boxes_by c (slice_index_or letters (length letters - 1) false) boxes (slice_index_or (path_order c.survey.fields) (length letters - 1) 0)
+      ≡ boxes_along c letters
   last-along boxes are =
       ap (λ (x : Bool). boxes_by c x boxes f) (sym changed)
       ∙ ap (λ (bs : List BoxFrom). boxes_after c (path ++ b ∷ []) bs f) are
@@ -86,15 +94,20 @@ module _ (c : SearchCase) (letters : List Bool) (many : number_count c < length 
       ∙ ap (λ (p : List Bool). boxes_along c p) (sym split)
     where
       changed : changes c.survey.fields (path ++ b ∷ []) f ≡ b
-      changed = changes-next c path b short f (placed-at c 0 (length letters - 1) (path_order c.survey.fields) (fields-placed c) (omega (arith, short, long, order-length c.survey.fields)) ∙ omega (arith, long))
+      changed =
+          changes-next c path b short f (placed-at c 0 (length letters - 1) (path_order c.survey.fields) (fields-placed c)
+          (omega (arith, short, long, order-length c.survey.fields)) ∙ omega (arith, long))
 
   -- the lists with them behind the others
-  pub last-lists : (before levels : List Level) (level : Level) (field : ℕ) (boxes : List BoxFrom) → HasBoxLists c (before_last letters) before → levels ≡ before ++ level ∷ [] → makings_of level ≡ map (λ (b : BoxFrom). box_by field b.origin) boxes
-      → own_boxes level ≡ boxes → field ≡ slice_index_or (path_order c.survey.fields) (length letters - 1) 0 → boxes ≡ boxes_along c letters → HasBoxLists c letters levels
+  pub last-lists : (before levels : List Level) (level : Level) (field : ℕ) (boxes : List BoxFrom) → HasBoxLists c (before_last letters) before
+      → levels ≡ before ++ level ∷ [] → makings_of level ≡ map (λ (b : BoxFrom). box_by field b.origin) boxes
+      → own_boxes level ≡ boxes → field ≡ slice_index_or (path_order c.survey.fields) (length letters - 1) 0 → boxes ≡ boxes_along c letters
+      → HasBoxLists c letters levels
   last-lists before levels level field boxes has push made own field_is along =
       box-lists c letters before levels level field boxes push made own (box_history c path) has.lists
       (ap (λ g. with_boxes (box_history c path) g boxes) (field_is ∙ sym field-is)
-      ∙ ap (λ (bs : List BoxFrom). with_boxes (box_history c path) (slice_index_or (path_order c.survey.fields) (length path) 0) bs) (along ∙ ap (λ (p : List Bool). boxes_along c p) split)
+      ∙ ap (λ (bs : List BoxFrom). with_boxes (box_history c path) (slice_index_or (path_order c.survey.fields) (length path) 0) bs)
+      (along ∙ ap (λ (p : List Bool). boxes_along c p) split)
       ∙ sym (box_history-next c path b short enough)
       ∙ ap (λ (p : List Bool). box_history c p) (sym split))
       along

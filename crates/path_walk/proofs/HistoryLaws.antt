@@ -1,4 +1,5 @@
-use Rattle.std.proofs.Common.{All, ◌≡◌, ◌≢◌, ◌++◌, ◌||◌, ℕ, zero, suc, ◌<◌, ◌≤◌, Bool, cond, true, false, not, if◌then◌else◌, List, [], ◌∷◌, Result, Ok, Err, length, slice_index_or, refl, sym, ap, ◌∙◌, inl, inr, arith}
+use Rattle.std.proofs.Common.{All, ◌≡◌, ◌≢◌, ◌++◌, ◌||◌, ℕ, zero, suc, ◌<◌, ◌≤◌, Bool, cond, true, false, not, if◌then◌else◌, List, [], ◌∷◌, Result}
+use Rattle.std.proofs.Common.{Ok, Err, length, slice_index_or, refl, sym, ap, ◌∙◌, inl, inr, arith}
 use Rattle.std.proofs.lemmas.List.{get_or_past}
 use Rattle.std.specs.List.{filter, fold}
 use Rattle.foundation.specs.Results.{◌>>=◌, fault_as}
@@ -30,19 +31,23 @@ line-shapes shape (x ∷ lines) over zero d below = (over zero d.line (omega ari
 line-shapes shape (x ∷ lines) over (suc k) d below = line-shapes shape lines (λ j e under. over (suc j) e (omega arith)) k d (omega arith)
 
 -- the lists of one field more
-lines-more : (before : History) (lines : List Derived) (fields : List ℕ) (f : ℕ) → lines_reached before lines (fields ++ f ∷ []) ≡ with_system (lines_reached before lines fields) (fold_result lines (fields ++ f ∷ []))
+lines-more : (before : History) (lines : List Derived) (fields : List ℕ) (f : ℕ)
+    → lines_reached before lines (fields ++ f ∷ []) ≡ with_system (lines_reached before lines fields) (fold_result lines (fields ++ f ∷ []))
 lines-more before lines [] f = by (step_result lines f)
   where
     by : (r : Result (List Derived) StepOverflow)
-        → and_next (with_lines before lines) r (λ next. with_lines (with_lines before lines) next) ≡ with_system (with_lines before lines) ((fault_as (overflow_at f) r >>= (λ next. Ok next)))
+        → and_next (with_lines before lines) r (λ next. with_lines (with_lines before lines) next)
+        ≡ with_system (with_lines before lines) ((fault_as (overflow_at f) r >>= (λ next. Ok next)))
     by (Ok next) = refl
     by (Err overflow) = refl
 lines-more before lines (g ∷ fields) f = by (step_result lines g) (λ next. lines-more (with_lines before lines) next fields f)
   where
     by : (r : Result (List Derived) StepOverflow)
-        → ((next : List Derived) → lines_reached (with_lines before lines) next (fields ++ f ∷ []) ≡ with_system (lines_reached (with_lines before lines) next fields) (fold_result next (fields ++ f ∷ [])))
+        → ((next : List Derived) → lines_reached (with_lines before lines) next (fields ++ f ∷ [])
+        ≡ with_system (lines_reached (with_lines before lines) next fields) (fold_result next (fields ++ f ∷ [])))
         → and_next (with_lines before lines) r (λ next. lines_reached (with_lines before lines) next (fields ++ f ∷ []))
-        ≡ with_system (and_next (with_lines before lines) r (λ next. lines_reached (with_lines before lines) next fields)) ((fault_as (overflow_at g) r >>= (λ next. fold_result next (fields ++ f ∷ []))))
+        ≡ with_system (and_next (with_lines before lines) r (λ next. lines_reached (with_lines before lines) next fields))
+        ((fault_as (overflow_at g) r >>= (λ next. fold_result next (fields ++ f ∷ []))))
     by (Ok next) more = more next
     by (Err overflow) more = refl
 
@@ -57,18 +62,22 @@ none-changed c = none-chosen (number_fields (shape_of c.survey.fields))
 -- its lists are those of the edits alone
 pub history-first : (c : SearchCase) → with_system [] (system_of c.edits (changed_numbers c [])) ≡ line_history c []
 history-first c =
-    ap (λ (fs : List ℕ). with_system [] (system_of c.edits fs)) (none-changed c) ∙ sym (ap (λ (fs : List ℕ). lines_reached [] (reduce_derived (base_lines c.edits)) fs) (none-changed c))
+    ap (λ (fs : List ℕ). with_system [] (system_of c.edits fs)) (none-changed c)
+    ∙ sym (ap (λ (fs : List ℕ). lines_reached [] (reduce_derived (base_lines c.edits)) fs) (none-changed c))
 
 module _ (c : SearchCase) (path : List Bool) (b : Bool) (short : length path < field_count c) where
   -- a letter that changes a numerical field
-  pub history-changed : b ≡ true → length path < number_count c → line_history c (path ++ b ∷ []) ≡ with_system (line_history c path) (system_of c.edits (changed_numbers c (path ++ b ∷ [])))
+  pub history-changed : b ≡ true → length path < number_count c
+      → line_history c (path ++ b ∷ []) ≡ with_system (line_history c path) (system_of c.edits (changed_numbers c (path ++ b ∷ [])))
   history-changed changed few =
       ap (λ (fs : List ℕ). lines_reached [] (reduce_derived (base_lines c.edits)) fs) numbers
       ∙ lines-more [] (reduce_derived (base_lines c.edits)) (changed_numbers c path) (slice_index_or (number_fields (shape_of c.survey.fields)) (length path) 0)
       ∙ ap (λ (fs : List ℕ). with_system (line_history c path) (system_of c.edits fs)) (sym numbers)
     where
       numbers : changed_numbers c (path ++ b ∷ []) ≡ changed_numbers c path ++ slice_index_or (number_fields (shape_of c.survey.fields)) (length path) 0 ∷ []
-      numbers = child-numbers c path b short few ∙ ap (λ x. changed_numbers c path ++ (if x then slice_index_or (number_fields (shape_of c.survey.fields)) (length path) 0 ∷ [] else [])) changed
+      numbers =
+          child-numbers c path b short few ∙ ap (λ x. changed_numbers c path
+          ++ (if x then slice_index_or (number_fields (shape_of c.survey.fields)) (length path) 0 ∷ [] else [])) changed
 
   -- another letter
   pub history-same : number_count c ≤ length path → line_history c (path ++ b ∷ []) ≡ line_history c path
@@ -79,14 +88,16 @@ module _ (c : SearchCase) (path : List Bool) (b : Bool) (short : length path < f
 module _ (c : SearchCase) (path : List Bool) where
   -- the boxes of one field more
   boxes-more : (history : History) (boxes : List BoxFrom) (fields : List ℕ) (f : ℕ)
-      → boxes_reached c path history boxes (fields ++ f ∷ []) ≡ with_boxes (boxes_reached c path history boxes fields) f (boxes_after c path (fold (boxes_after c path) boxes fields) f)
+      → boxes_reached c path history boxes (fields ++ f ∷ [])
+      ≡ with_boxes (boxes_reached c path history boxes fields) f (boxes_after c path (fold (boxes_after c path) boxes fields) f)
   boxes-more history boxes [] f = refl
   boxes-more history boxes (g ∷ fields) f = boxes-more (with_boxes history g (boxes_after c path boxes g)) (boxes_after c path boxes g) fields f
 
   -- the path says nothing of the fields behind it
   none-treated : (k : ℕ) (fields : List ℕ) → length path ≤ k → Placed c k fields → filter (treats c path) fields ≡ []
   none-treated k [] within placed = refl
-  none-treated k (f ∷ fields) within placed = ap (λ t. cond t (f ∷ filter (treats c path) fields) (filter (treats c path) fields)) past ∙ none-treated (suc k) fields (omega (arith, within)) placed.1
+  none-treated k (f ∷ fields) within placed =
+      ap (λ t. cond t (f ∷ filter (treats c path) fields) (filter (treats c path) fields)) past ∙ none-treated (suc k) fields (omega (arith, within)) placed.1
     where
       past : treats c path f ≡ false
       past =
@@ -112,25 +123,33 @@ module _ (c : SearchCase) (path : List Bool) (b : Bool) (short : length path < f
       ap (λ (bs : List BoxFrom). boxes_reached c (path ++ b ∷ []) (with_boxes history f bs) bs fields) (after-same c path b short boxes f (each f (inl refl)))
       ∙ from-same (with_boxes history f (boxes_after c path boxes f)) (boxes_after c path boxes f) fields (λ g there. each g (inr there))
 
-  fold-same : (boxes : List BoxFrom) (fields : List ℕ) → ((f : ℕ) → IsIn f fields → path_place c.survey.fields f ≢ length path) → fold (boxes_after c (path ++ b ∷ [])) boxes fields ≡ fold (boxes_after c path) boxes fields
+  fold-same : (boxes : List BoxFrom) (fields : List ℕ) → ((f : ℕ) → IsIn f fields → path_place c.survey.fields f ≢ length path)
+      → fold (boxes_after c (path ++ b ∷ [])) boxes fields ≡ fold (boxes_after c path) boxes fields
   fold-same boxes [] each = refl
   fold-same boxes (f ∷ fields) each =
       ap (λ (bs : List BoxFrom). fold (boxes_after c (path ++ b ∷ [])) bs fields) (after-same c path b short boxes f (each f (inl refl)))
       ∙ fold-same (boxes_after c path boxes f) fields (λ g there. each g (inr there))
 
   -- a letter for a categorical field
-  pub box_history-next : number_count c ≤ length path → box_history c (path ++ b ∷ []) ≡ with_boxes (box_history c path) (slice_index_or (path_order c.survey.fields) (length path) 0) (boxes_along c (path ++ b ∷ []))
+  pub box_history-next : number_count c ≤ length path
+      → box_history c (path ++ b ∷ []) ≡ with_boxes (box_history c path) (slice_index_or (path_order c.survey.fields) (length path) 0)
+      (boxes_along c (path ++ b ∷ []))
   box_history-next enough =
       let start = λ (history : History) (boxes : List BoxFrom) (fields : List ℕ). boxes_reached c (path ++ b ∷ []) (with_boxes history 0 boxes) boxes fields in
       ap (λ (h : History). start h (first_boxes c (path ++ b ∷ [])) (treated_codes c (path ++ b ∷ []))) (history-same c path b short enough)
       ∙ ap (λ (bs : List BoxFrom). start (line_history c path) bs (treated_codes c (path ++ b ∷ []))) (first-same c path b short enough)
       ∙ ap (λ (fs : List ℕ). start (line_history c path) (first_boxes c path) fs) (child-codes c path b short enough)
-      ∙ boxes-more c (path ++ b ∷ []) (with_boxes (line_history c path) 0 (first_boxes c path)) (first_boxes c path) (treated_codes c path) (slice_index_or (path_order c.survey.fields) (length path) 0)
-      ∙ ap (λ (h : History). with_boxes h (slice_index_or (path_order c.survey.fields) (length path) 0) (boxes_after c (path ++ b ∷ []) (fold (boxes_after c (path ++ b ∷ [])) (first_boxes c path) (treated_codes c path)) (slice_index_or (path_order c.survey.fields) (length path) 0)))
+      ∙ boxes-more c (path ++ b ∷ []) (with_boxes (line_history c path) 0 (first_boxes c path)) (first_boxes c path) (treated_codes c path)
+      (slice_index_or (path_order c.survey.fields) (length path) 0)
+      ∙ ap (λ (h : History). with_boxes h (slice_index_or (path_order c.survey.fields) (length path) 0)
+      (boxes_after c (path ++ b ∷ []) (fold (boxes_after c (path ++ b ∷ [])) (first_boxes c path) (treated_codes c path))
+      (slice_index_or (path_order c.survey.fields) (length path) 0)))
       (from-same (with_boxes (line_history c path) 0 (first_boxes c path)) (first_boxes c path) (treated_codes c path) (treated-within c path b short))
       ∙ ap (λ (bs : List BoxFrom). with_boxes (box_history c path) (slice_index_or (path_order c.survey.fields) (length path) 0) bs) same
     where
-      same : boxes_after c (path ++ b ∷ []) (fold (boxes_after c (path ++ b ∷ [])) (first_boxes c path) (treated_codes c path)) (slice_index_or (path_order c.survey.fields) (length path) 0) ≡ boxes_along c (path ++ b ∷ [])
+      same : boxes_after c (path ++ b ∷ []) (fold (boxes_after c (path ++ b ∷ [])) (first_boxes c path) (treated_codes c path))
+          (slice_index_or (path_order c.survey.fields) (length path) 0) ≡ boxes_along c (path ++ b ∷ [])
       same =
-          ap (λ (bs : List BoxFrom). boxes_after c (path ++ b ∷ []) bs (slice_index_or (path_order c.survey.fields) (length path) 0)) (fold-same (first_boxes c path) (treated_codes c path) (treated-within c path b short))
+          ap (λ (bs : List BoxFrom). boxes_after c (path ++ b ∷ []) bs (slice_index_or (path_order c.survey.fields) (length path) 0))
+          (fold-same (first_boxes c path) (treated_codes c path) (treated-within c path b short))
           ∙ sym (child-boxes c path b short enough)

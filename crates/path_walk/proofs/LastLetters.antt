@@ -26,11 +26,13 @@ module _ (c : SearchCase) (letters : List Bool) (some : 0 < length letters) (fit
       → with_system (line_history c (before_last letters)) (system_of c.edits (changed_numbers c letters)) ≡ line_history c letters
   next-changed few changed =
       ap (λ (p : List Bool). with_system (line_history c (before_last letters)) (system_of c.edits (changed_numbers c p))) (split-last letters false some)
-      ∙ sym (history-changed c (before_last letters) (slice_index_or letters (length letters - 1) false) (omega (arith, length-before, some, fit)) changed (omega (arith, few, length-before)))
+      ∙ sym (history-changed c (before_last letters) (slice_index_or letters (length letters - 1) false) (omega (arith, length-before, some, fit)) changed
+      (omega (arith, few, length-before)))
       ∙ ap (λ (p : List Bool). line_history c p) (sym (split-last letters false some))
 
 -- where the last letter changes a field, or there is none, the lines of the path's system come last
-pub lines-pushed : (c : SearchCase) (letters : List Bool) (levels : List Level) → length letters ≤ number_count c → HasListsBefore c letters levels → (length letters ≡ 0) ⊎ ((0 < length letters) × (slice_index_or letters (length letters - 1) false ≡ true))
+pub lines-pushed : (c : SearchCase) (letters : List Bool) (levels : List Level) → length letters ≤ number_count c → HasListsBefore c letters levels
+    → (length letters ≡ 0) ⊎ ((0 < length letters) × (slice_index_or letters (length letters - 1) false ≡ true))
     → with_system (history_of levels) (system_of c.edits (changed_numbers c letters)) ≡ line_history c letters
 lines-pushed c letters levels few before (inl none) =
     ap (λ (ls : List Level). with_system (history_of ls) (system_of c.edits (changed_numbers c letters))) (before.first none)
@@ -39,5 +41,6 @@ lines-pushed c letters levels few before (inl none) =
     ∙ ap (λ (p : List Bool). line_history c p) (sym (nil_from_length letters none))
 lines-pushed c letters levels few before (inr (some, changed)) =
     let fit : length letters ≤ field_count c = omega (arith, few, count-kinds c) in
-    ap (λ (h : History). with_system h (system_of c.edits (changed_numbers c letters))) ((before.later some).lines (omega (arith, length-before c letters some fit, few)))
+    ap (λ (h : History). with_system h (system_of c.edits (changed_numbers c letters)))
+    ((before.later some).lines (omega (arith, length-before c letters some fit, few)))
     ∙ next-changed c letters some fit (omega (arith, few, some)) changed

@@ -19,16 +19,20 @@ module _ (c : SearchCase) (is : IsCase c) (path : List Bool) where
   first-over : AreBoxesOver (shape_of c.survey.fields) (first_boxes c path)
   first-over = by (system_of c.edits (changed_numbers c path)) refl
     where
-      boxed : (lines : List Derived) → system_of c.edits (changed_numbers c path) ≡ Ok lines → (r : Result (List BoxFrom) LineFault) → failing_from 0 lines c.row [] ≡ r → AreBoxesOver (shape_of c.survey.fields) (or_empty r)
+      boxed : (lines : List Derived) → system_of c.edits (changed_numbers c path) ≡ Ok lines → (r : Result (List BoxFrom) LineFault)
+          → failing_from 0 lines c.row [] ≡ r → AreBoxesOver (shape_of c.survey.fields) (or_empty r)
       boxed lines made (Ok boxes) told =
-          over-failing (shape_of c.survey.fields) 0 lines c.row [] boxes (line-shapes (shape_of c.survey.fields) lines (system-over c is (changed_numbers c path) lines made)) (λ k b below. absurd (omega arith)) told
+          over-failing (shape_of c.survey.fields) 0 lines c.row [] boxes
+          (line-shapes (shape_of c.survey.fields) lines (system-over c is (changed_numbers c path) lines made)) (λ k b below. absurd (omega arith)) told
       boxed lines made (Err fault) told = λ k b below. absurd (omega arith)
 
       none : (r : Result (List BoxFrom) LineFault) → failing_from 0 [] c.row [] ≡ r → AreBoxesOver (shape_of c.survey.fields) (or_empty r)
-      none (Ok boxes) told = over-failing (shape_of c.survey.fields) 0 [] c.row [] boxes (λ k d below. absurd (omega arith)) (λ k b below. absurd (omega arith)) told
+      none (Ok boxes) told =
+          over-failing (shape_of c.survey.fields) 0 [] c.row [] boxes (λ k d below. absurd (omega arith)) (λ k b below. absurd (omega arith)) told
       none (Err fault) told = λ k b below. absurd (omega arith)
 
-      by : (r : Result (List Derived) SystemOverflow) → system_of c.edits (changed_numbers c path) ≡ r → AreBoxesOver (shape_of c.survey.fields) (or_empty (failing_from 0 (or_empty r) c.row []))
+      by : (r : Result (List Derived) SystemOverflow) → system_of c.edits (changed_numbers c path) ≡ r
+          → AreBoxesOver (shape_of c.survey.fields) (or_empty (failing_from 0 (or_empty r) c.row []))
       by (Ok lines) made = boxed lines made (failing_from 0 lines c.row []) refl
       by (Err overflow) made = none (failing_from 0 [] c.row []) refl
 

@@ -1,4 +1,10 @@
-//! Paths that say something of all numerical fields and of categorical ones.
+//! Looks into paths that say something of all numerical fields and of categorical ones. The boxes are
+//! combined at a changed field, and fixed at the record's code at a kept one. A letter of a path says of
+//! one field whether it is kept (false) or changed (true).
+//!
+//! In contracts, `IsProblem` says that a problem's parts fit, `boxes_along` has the boxes of a path, and
+//! `cover_work` is the work at a changed field. `TellsLook` says that a look is the path's, and its work
+//! at most `most`. `IsChanged` and `IsKept` say what a look tells at a changed and at a kept field.
 ghost use Rattle.std.specs.Prelude.{◌≡◌, ◌+◌, ◌≤◌, ◌<◌, IfOk, IfNone, IfSome, length, nat_eq};
 ghost use Rattle.std.specs.Cmp.Lexicographic.{pointwise};
 ghost use Rattle.std.specs.List.{position};
@@ -23,8 +29,8 @@ use foundation::{OutOfMemory, Sequence};
 use std::alloc::Global;
 use std::sync::Arc;
 
-/// Looks into a path that says something of categorical fields, unless its work is more than `most`, which
-/// is not 0. The boxes are those of the path before its last letter, which is open.
+/// Looks into a path that says something of categorical fields, where `most` is not 0. None exactly where
+/// its work is more than `most`. `before` has the boxes of the path before its last letter, which is open.
 pub(crate) fn look_at_codes(
     alloc: Global,
     problem: &Problem,
@@ -50,7 +56,8 @@ pub(crate) fn look_at_codes(
     }
 }
 
-// The look at the path, if its work is no more than may be done, where its last field is changed.
+// The look at a path that changes its last field: the boxes before are combined at it. The path itself is 1
+// of its work, so that `most - 1` pairs are left; None where there are more.
 fn look_at_changed(
     alloc: Global,
     problem: &Problem,
@@ -76,7 +83,8 @@ fn look_at_changed(
     }
 }
 
-// The look at the path where its last field is kept.
+// The look at a path that keeps its last field: the boxes before are fixed at the record's code there.
+// Where the record has no code, the path is closed, and no boxes are made. The work is 1.
 fn look_at_kept(
     alloc: Global,
     problem: &Problem,
@@ -107,7 +115,8 @@ fn look_at_kept(
     }
 }
 
-// What the first box of all codes makes of the path.
+// The state that the path's boxes make: the first box that has all codes closes the path. Without one it is
+// open.
 fn first_whole(problem: &Problem, boxes: &[BoxFrom]) -> PathState
     requires problem { IsProblem problem.now }
     ensures { result ≡ whole_state (case_in problem.now) boxes.now }
@@ -118,7 +127,8 @@ fn first_whole(problem: &Problem, boxes: &[BoxFrom]) -> PathState
     }
 }
 
-// The place of the first box that has all codes.
+// The place of the first box that has all codes, if there is one. `wholes` has the set of all codes of each
+// categorical field.
 fn whole_place(wholes: &[u64], boxes: &[BoxFrom]) -> Option<usize>
     ensures { result ≡ position (λ b. pointwise nat_eq b.code_box.sets wholes.now) boxes.now }
 {

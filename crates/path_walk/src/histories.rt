@@ -1,5 +1,13 @@
-//! The lists from which the system and the boxes of a path are derived, letter by letter.
-ghost use Rattle.std.specs.Prelude.{◌≡◌, ◌+◌, ◌≤◌, ◌<◌, [], ℕ, All, IfOk, OnOk, length, true};
+//! The lists from which the system and the boxes of a path are derived, letter by letter. A letter says of
+//! one field whether it is kept (false) or changed (true).
+//!
+//! Below, `source` gives derived systems, and `steps` counts the pairs of lines combined for them. In
+//! contracts, `serves` has the edits whose systems it gives, and `keeps` the sets of fields whose systems
+//! it keeps. `HasLists` says that the lists lead to the path's system or boxes, and `HasListsBefore` to
+//! those of the path before its last letter. `HasMore` says that lists were only put behind,
+//! `IsKnownBasis` that a basis, if there is one, is the path's, and `IsProblem` that a problem's parts
+//! fit.
+ghost use Rattle.std.specs.Prelude.{◌≡◌, ◌≤◌, ◌<◌, [], ℕ, All, IfOk, OnOk, length, true};
 ghost use Rattle.std.specs.Arc.{arc_value};
 ghost use Rattle.std.specs.Option.{option_copied};
 ghost use Rattle.edit_model.specs.RowPoints.{code_in};
@@ -33,16 +41,25 @@ use std::alloc::Global;
 use std::sync::Arc;
 use std::sync::ledger::Ledger;
 
-/// What is kept of a path and of the path before its last letter.
+/// The bases of a path (`own`) and of the path before its last letter (`parent`), where these were kept.
+/// What was not kept is made again.
 #[derive(Clone, Copy)]
 pub struct Bases<'a> {
     pub own: Option<&'a Basis>,
     pub parent: Option<&'a Basis>,
 }
 
-/// Appends the lists that the last letter of the path leads to, to those of the path before: the lines of its
-/// system where it changes a numerical field; the boxes after its categorical field, and before the first of
-/// these the record's boxes; of the empty path the lines of the edits.
+/// The letters of a path, and its basis, if that was kept.
+#[derive(Clone, Copy)]
+struct KnownPath<'a> {
+    letters: &'a [bool],
+    basis: Option<&'a Basis>,
+}
+
+/// Appends the lists that the last letter of the path leads to, to those of the path before. These are the
+/// lines of its system where it changes a numerical field, and the boxes after its field where that is
+/// categorical. Before the first such boxes the record's boxes stand; the empty path has the lines of the
+/// edits. A system for which a number leaves the range gives no list.
 pub fn push_lists<S: Systems, L: Ledger>(
     alloc: Global,
     source: &mut S,
@@ -64,65 +81,73 @@ pub fn push_lists<S: Systems, L: Ledger>(
     ensures keeps { (f : ℕ) → S.keeps source.old f ≡ true → S.keeps source.new f ≡ true }
     ensures counts { steps.old ≤ steps.new }
 {
+    let path = KnownPath {
+        letters,
+        basis: bases.own,
+    };
     if letters.len() <= number_count(problem) {
-        push_lines(alloc, source, problem, letters, bases.own, levels, steps)?;
+        push_lines(alloc, source, problem, path, levels, steps)?;
         return Ok(());
     }
     if letters.len() - 1 == number_count(problem) {
-        push_first_boxes(alloc, source, problem, letters, bases.parent, levels, steps)?;
+        let before = KnownPath {
+            letters: &letters[..letters.len() - 1],
+            basis: bases.parent,
+        };
+        push_first_boxes(alloc, source, problem, before, levels, steps)?;
     }
-    push_boxes(alloc, problem, letters, bases.own, levels)?;
+    push_boxes(alloc, problem, path, levels)?;
     Ok(())
 }
 
-// Appends the lines of the path's system, unless it keeps its last field.
+// Appends the lines of the system of a path that says something of numerical fields alone. Where it keeps
+// its last field, it appends nothing: its system is that of the path before, whose lines stand there.
 fn push_lines<S: Systems, L: Ledger>(
     alloc: Global,
     source: &mut S,
     problem: &Problem,
-    letters: &[bool],
-    own: Option<&Basis>,
+    path: KnownPath,
     levels: &mut Vec<Level>,
     steps: &mut Steps<L>,
 ) -> Result<(), OutOfMemory>
     requires problem { IsProblem problem.now }
     requires served { S.serves source.old (edits_in problem.now) }
-    requires own { IsKnownBasis (case_in problem.now) letters.now (option_copied own) }
-    requires few { length letters.now ≤ number_count (case_in problem.now) }
-    requires before { HasListsBefore (case_in problem.now) letters.now levels.old.items }
-    ensures history { OnOk result (history_of levels.new.items ≡ line_history (case_in problem.now) letters.now) }
+    requires basis { IsKnownBasis (case_in problem.now) path.letters.now (option_copied path.basis) }
+    requires few { length path.letters.now ≤ number_count (case_in problem.now) }
+    requires before { HasListsBefore (case_in problem.now) path.letters.now levels.old.items }
+    ensures history { OnOk result (history_of levels.new.items ≡ line_history (case_in problem.now) path.entry.letters.now) }
     ensures grown { OnOk result (HasMore levels.old.items levels.new.items) }
     ensures serves { (e : EditsParts) → S.serves source.old e → S.serves source.new e }
     ensures keeps { (f : ℕ) → S.keeps source.old f ≡ true → S.keeps source.new f ≡ true }
     ensures counts { steps.old ≤ steps.new }
 {
+    let letters = path.letters;
     if !letters.is_empty() && !letters[letters.len() - 1] {
         return Ok(());
     }
-    push_system(alloc, source, problem, letters, own, levels, steps)?;
+    push_system(alloc, source, problem, path, levels, steps)?;
     Ok(())
 }
 
-// Appends the lines of the path's system, if no number leaves the range.
+// Appends the lines of the path's system, or nothing where a number leaves the range.
 fn push_system<S: Systems, L: Ledger>(
     alloc: Global,
     source: &mut S,
     problem: &Problem,
-    letters: &[bool],
-    own: Option<&Basis>,
+    path: KnownPath,
     levels: &mut Vec<Level>,
     steps: &mut Steps<L>,
 ) -> Result<(), OutOfMemory>
     requires problem { IsProblem problem.now }
     requires served { S.serves source.old (edits_in problem.now) }
-    requires own { IsKnownBasis (case_in problem.now) letters.now (option_copied own) }
-    ensures history { OnOk result (AddsSystem (case_in problem.now) letters.now levels.old.items levels.new.items) }
+    requires basis { IsKnownBasis (case_in problem.now) path.letters.now (option_copied path.basis) }
+    ensures history { OnOk result (AddsSystem (case_in problem.now) path.entry.letters.now levels.old.items levels.new.items) }
     ensures grown { OnOk result (HasMore levels.old.items levels.new.items) }
     ensures serves { (e : EditsParts) → S.serves source.old e → S.serves source.new e }
     ensures keeps { (f : ℕ) → S.keeps source.old f ≡ true → S.keeps source.new f ≡ true }
     ensures counts { steps.old ≤ steps.new }
 {
-    match own_system(alloc, source, problem, letters, own, steps) {
+    match own_system(alloc, source, problem, path, steps) {
         Ok(system) => {
             levels.push(Level::Lines(system))?;
             Ok(())
@@ -132,134 +157,133 @@ fn push_system<S: Systems, L: Ledger>(
     }
 }
 
-// The path's system, to be shared: its basis, or else as the source has it.
+// The path's system, to be shared: its basis, where that was kept and has lines, or else as the source
+// gives it. An overflow where a number leaves the range.
 fn own_system<S: Systems, L: Ledger>(
     alloc: Global,
     source: &mut S,
     problem: &Problem,
-    letters: &[bool],
-    own: Option<&Basis>,
+    path: KnownPath,
     steps: &mut Steps<L>,
 ) -> Result<Arc<Held>, SystemFault>
     requires problem { IsProblem problem.now }
     requires served { S.serves source.old (edits_in problem.now) }
-    requires own { IsKnownBasis (case_in problem.now) letters.now (option_copied own) }
-    ensures exact { Answers shared_lines told_system result (path_system (case_in problem.now) letters.now) }
+    requires basis { IsKnownBasis (case_in problem.now) path.letters.now (option_copied path.basis) }
+    ensures exact { Answers shared_lines told_system result (path_system (case_in problem.now) path.entry.letters.now) }
     ensures serves { (e : EditsParts) → S.serves source.old e → S.serves source.new e }
     ensures keeps { (f : ℕ) → S.keeps source.old f ≡ true → S.keeps source.new f ≡ true }
     ensures counts { steps.old ≤ steps.new }
 {
-    if let Some(Basis::Lines(system)) = own {
+    if let Some(Basis::Lines(system)) = path.basis {
         return Ok(share(system)?);
     }
-    match system_along(alloc, source, problem, letters, steps) {
+    match system_along(alloc, source, problem, path.letters, steps) {
         Ok(held) => Ok(alone(alloc, held)?),
         Err(fault) => Err(fault),
     }
 }
 
-// Appends the record's boxes, where the path says something of one categorical field.
+// Appends the record's boxes, where the path before says something of all numerical fields and no other.
 fn push_first_boxes<S: Systems, L: Ledger>(
     alloc: Global,
     source: &mut S,
     problem: &Problem,
-    letters: &[bool],
-    parent: Option<&Basis>,
+    before: KnownPath,
     levels: &mut Vec<Level>,
     steps: &mut Steps<L>,
 ) -> Result<(), OutOfMemory>
     requires problem { IsProblem problem.now }
     requires served { S.serves source.old (edits_in problem.now) }
-    requires parent { IsKnownBasis (case_in problem.now) (before_last letters.now) (option_copied parent) }
-    requires first { length letters.now ≡ 1 + number_count (case_in problem.now) }
-    requires before { history_of levels.old.items ≡ line_history (case_in problem.now) (before_last letters.now) }
-    ensures boxes { OnOk result (HasBoxLists (case_in problem.now) (before_last letters.now) levels.new.items) }
+    requires basis { IsKnownBasis (case_in problem.now) before.letters.now (option_copied before.basis) }
+    requires numbers { length before.letters.now ≡ number_count (case_in problem.now) }
+    requires history { history_of levels.old.items ≡ line_history (case_in problem.now) before.letters.now }
+    ensures boxes { OnOk result (HasBoxLists (case_in problem.now) before.entry.letters.now levels.new.items) }
     ensures grown { OnOk result (HasMore levels.old.items levels.new.items) }
     ensures serves { (e : EditsParts) → S.serves source.old e → S.serves source.new e }
     ensures keeps { (f : ℕ) → S.keeps source.old f ≡ true → S.keeps source.new f ≡ true }
     ensures counts { steps.old ≤ steps.new }
 {
-    let before = &letters[..letters.len() - 1];
-    let boxes = record_boxes(alloc, source, problem, before, parent, steps)?;
+    let boxes = record_boxes(alloc, source, problem, before, steps)?;
     levels.push(Level::Boxes { field: 0, boxes })?;
     Ok(())
 }
 
-// The record's boxes, to be shared: the basis of this path, which says something of the numerical fields alone, or else
-// made of its system.
+// The record's boxes, to be shared, where the path of these letters says something of numerical fields
+// alone. They are the path's basis, if that was kept and has boxes, or else made of its system. There are
+// none where a number leaves the range.
 fn record_boxes<S: Systems, L: Ledger>(
     alloc: Global,
     source: &mut S,
     problem: &Problem,
-    letters: &[bool],
-    own: Option<&Basis>,
+    path: KnownPath,
     steps: &mut Steps<L>,
 ) -> Result<Arc<Sequence<BoxFrom>>, OutOfMemory>
     requires problem { IsProblem problem.now }
     requires served { S.serves source.old (edits_in problem.now) }
-    requires few { length letters.now ≤ number_count (case_in problem.now) }
-    requires own { IsKnownBasis (case_in problem.now) letters.now (option_copied own) }
-    ensures boxes { IfOk result (λ boxes. arc_value boxes ≡ boxes_along (case_in problem.now) letters.now) }
+    requires few { length path.letters.now ≤ number_count (case_in problem.now) }
+    requires basis { IsKnownBasis (case_in problem.now) path.letters.now (option_copied path.basis) }
+    ensures boxes { IfOk result (λ boxes. arc_value boxes ≡ boxes_along (case_in problem.now) path.entry.letters.now) }
     ensures serves { (e : EditsParts) → S.serves source.old e → S.serves source.new e }
     ensures keeps { (f : ℕ) → S.keeps source.old f ≡ true → S.keeps source.new f ≡ true }
     ensures counts { steps.old ≤ steps.new }
 {
-    if let Some(Basis::Boxes(boxes)) = own {
+    if let Some(Basis::Boxes(boxes)) = path.basis {
         return Ok(Arc::try_clone(boxes)?);
     }
-    let boxes = first_boxes(alloc, source, problem, letters, steps)?;
+    let boxes = first_boxes(alloc, source, problem, path.letters, steps)?;
     Ok(Arc::new(alloc, boxes)?)
 }
 
-// Appends the boxes after the path's last field, which is categorical.
+// Appends the boxes after the path's last field, which is categorical. The last list has those of the path
+// before.
 fn push_boxes(
     alloc: Global,
     problem: &Problem,
-    letters: &[bool],
-    own: Option<&Basis>,
+    path: KnownPath,
     levels: &mut Vec<Level>,
 ) -> Result<(), OutOfMemory>
     requires problem { IsProblem problem.now }
-    requires many { number_count (case_in problem.now) < length letters.now }
-    requires fit { length letters.now ≤ field_count (case_in problem.now) }
-    requires own { IsKnownBasis (case_in problem.now) letters.now (option_copied own) }
-    requires before { HasBoxLists (case_in problem.now) (before_last letters.now) levels.old.items }
-    ensures boxes { OnOk result (HasBoxLists (case_in problem.now) letters.now levels.new.items) }
+    requires many { number_count (case_in problem.now) < length path.letters.now }
+    requires fit { length path.letters.now ≤ field_count (case_in problem.now) }
+    requires basis { IsKnownBasis (case_in problem.now) path.letters.now (option_copied path.basis) }
+    requires before { HasBoxLists (case_in problem.now) (before_last path.letters.now) levels.old.items }
+    ensures boxes { OnOk result (HasBoxLists (case_in problem.now) path.entry.letters.now levels.new.items) }
     ensures grown { OnOk result (HasMore levels.old.items levels.new.items) }
 {
-    let last = letters.len() - 1;
+    let last = path.letters.len() - 1;
     let field = problem.survey.path_field(last as u32);
-    let boxes = path_boxes(alloc, problem, letters, own, last_boxes(levels), field)?;
+    let boxes = path_boxes(alloc, problem, path, last_boxes(levels), field)?;
     levels.push(Level::Boxes { field, boxes })?;
     Ok(())
 }
 
-// The path's boxes, to be shared: its basis, or else those of the path before, after its last field, which is categorical.
+// The path's boxes, to be shared: its basis, where that was kept, or else made of `before`. These are the
+// boxes of the path before its last letter. `field` is that of the last letter, and categorical.
 fn path_boxes(
     alloc: Global,
     problem: &Problem,
-    letters: &[bool],
-    own: Option<&Basis>,
+    path: KnownPath,
     before: &[BoxFrom],
     field: u32,
 ) -> Result<Arc<Sequence<BoxFrom>>, OutOfMemory>
     requires problem { IsProblem problem.now }
-    requires many { number_count (case_in problem.now) < length letters.now }
-    requires fit { length letters.now ≤ field_count (case_in problem.now) }
-    requires own { IsKnownBasis (case_in problem.now) letters.now (option_copied own) }
-    requires before { before.now ≡ boxes_along (case_in problem.now) (before_last letters.now) }
-    requires field { field ≡ last_field (case_in problem.now) letters.now }
+    requires many { number_count (case_in problem.now) < length path.letters.now }
+    requires fit { length path.letters.now ≤ field_count (case_in problem.now) }
+    requires basis { IsKnownBasis (case_in problem.now) path.letters.now (option_copied path.basis) }
+    requires before { before.now ≡ boxes_along (case_in problem.now) (before_last path.letters.now) }
+    requires field { field ≡ last_field (case_in problem.now) path.letters.now }
     requires within { field < field_count (case_in problem.now) }
-    ensures boxes { IfOk result (λ boxes. arc_value boxes ≡ boxes_along (case_in problem.now) letters.now) }
+    ensures boxes { IfOk result (λ boxes. arc_value boxes ≡ boxes_along (case_in problem.now) path.entry.letters.now) }
 {
-    if let Some(Basis::Boxes(boxes)) = own {
+    if let Some(Basis::Boxes(boxes)) = path.basis {
         return Ok(Arc::try_clone(boxes)?);
     }
+    let letters = path.letters;
     let boxes = boxes_after(alloc, problem, before, field, letters[letters.len() - 1])?;
     Ok(Arc::new(alloc, boxes)?)
 }
 
-// The boxes of the last list, none where it has lines.
+// The boxes of the last list; none where that has lines, or where there is no list.
 fn last_boxes(levels: &[Level]) -> &[BoxFrom]
     ensures { result.now ≡ boxes_in levels.now }
 {
@@ -269,7 +293,8 @@ fn last_boxes(levels: &[Level]) -> &[BoxFrom]
     }
 }
 
-// The record's boxes, none where a number leaves the range.
+// The record's boxes, made of the system of the path of these letters; none where a number leaves the
+// range.
 fn first_boxes<S: Systems, L: Ledger>(
     alloc: Global,
     source: &mut S,
@@ -291,7 +316,7 @@ fn first_boxes<S: Systems, L: Ledger>(
     }
 }
 
-// The boxes of the lines that fail at the record, none where a number leaves the range.
+// The boxes of those of the lines that fail at the record; none at all where a number leaves the range.
 fn boxes_of_lines(
     alloc: Global,
     problem: &Problem,
@@ -308,8 +333,9 @@ fn boxes_of_lines(
     }
 }
 
-// The boxes after one more categorical field. The pairs of a changed one were counted when its path was
-// taken, so they do not pass the greatest number.
+// The boxes after one more categorical field: combined where it is changed, else fixed at the record's
+// code. A changed field has no more than `u64::MAX` pairs, as they were counted when its path was taken. So
+// `Passed` does not come, and is answered as want of memory.
 fn boxes_after(
     alloc: Global,
     problem: &Problem,
@@ -334,7 +360,7 @@ fn boxes_after(
     Ok(Sequence::from_vec(boxes))
 }
 
-// The record's code at the field, 0 where it has none.
+// The record's code at the categorical field, 0 where it has none.
 fn code_at(problem: &Problem, field: u32) -> u8
     requires problem { IsProblem problem.now }
     requires takes { TakesCodes (shape_of (case_in problem.now).survey.fields) field }

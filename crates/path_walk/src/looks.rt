@@ -1,3 +1,9 @@
+//! A look into one path: its work, what becomes of it, and the basis from which the paths with one letter
+//! more are looked into. A letter says of one field whether it is kept (false) or changed (true).
+//!
+//! In contracts, `TellsLook` says that a look is the path's, with at most the work that is allowed.
+//! `serves` has the edits whose systems the source gives. `KeepsChanged` says that it keeps the system of
+//! the numerical fields that a path changes, and `KeepsOpen` that it does where the path is open.
 ghost use Rattle.std.specs.Prelude.{◌≡◌, ℕ, ◌<◌, ◌≤◌, ◌+◌, IfOk, IfNone, IfSome, length, true};
 ghost use Rattle.edit_line.specs.EditSets.{EditsParts};
 ghost use Rattle.edit_paths.specs.Paths.{before_last, field_count};
@@ -9,7 +15,7 @@ ghost use Rattle.path_walk.specs.Looks.{KeepsOpen, TellsLook};
 ghost use Rattle.path_walk.specs.Problems.{IsProblem, case_in, edits_in};
 
 use crate::code_paths::look_at_codes;
-use crate::number_paths::look_at_numbers;
+use crate::number_paths::{NumberPath, look_at_numbers};
 use crate::problem::Problem;
 use bound_cert::Path;
 use categ_combine::BoxFrom;
@@ -20,11 +26,13 @@ use std::alloc::Global;
 use std::sync::Arc;
 use std::sync::ledger::Ledger;
 
-/// What the paths with one letter more are looked into from, and its proof is written from: the lines of a path's
-/// system, or, where it says something of all numerical fields, its boxes.
+/// What the paths with one letter more are looked into from, and its proof is written from: the lines of a
+/// path's system, or, where it says something of all numerical fields, its boxes.
 #[derive(Drop)]
 pub enum Basis {
+    /// The lines of the path's system.
     Lines(Arc<Held>),
+    /// The path's boxes.
     Boxes(Arc<Sequence<BoxFrom>>),
 }
 
@@ -59,8 +67,9 @@ pub struct Look {
 }
 
 impl Look {
-    /// Its basis, shared, if it is the path's own and has no more lines or boxes than there is room for; these take
-    /// their room.
+    /// Its basis, shared, so that it is kept for the certificate. `room` is how many further lines and
+    /// boxes may be kept, and is made smaller by the size of the basis. None where the look has no basis
+    /// of the path's own, or the basis is larger than the room; then the room stays.
     pub fn kept_basis(&self, room: &mut usize) -> Result<Option<Basis>, OutOfMemory>
         ensures { IfOk result (λ kept. IfSome kept (SharesBasis self.now room.old room.new)) }
     {
@@ -73,14 +82,17 @@ impl Look {
     }
 }
 
-// Whether a look into a path of this state has the path's own basis.
+// Whether a look into a path of this state has the path's own basis. Where a path keeps a field without a
+// value, or a number leaves the range, none is made.
 fn has_basis(state: PathState) -> bool
     ensures { result ≡ has_basis state }
 {
     !matches!(state, PathState::ClosedBad | PathState::Overflows(_))
 }
 
-/// Looks into the path, unless its work is more than `most`. The basis is that of the path before its last letter.
+/// Looks into the path: tells its work, its state and its basis. None exactly where its work is more than
+/// `most`. `before` is the basis of the path before its last letter; for the empty path, the lines of the
+/// edits. The source gives the derived systems, and `steps` counts the pairs of lines combined for them.
 pub fn look_into<S: Systems, L: Ledger>(
     alloc: Global,
     source: &mut S,
@@ -108,7 +120,11 @@ pub fn look_into<S: Systems, L: Ledger>(
     }
     match before {
         Basis::Lines(system) => {
-            look_at_numbers(alloc, source, problem, path, system, most, steps)
+            let at = NumberPath {
+                path,
+                before: system,
+            };
+            look_at_numbers(alloc, source, problem, at, most, steps)
         }
         Basis::Boxes(boxes) => {
             look_at_codes(alloc, problem, path.letters(), boxes.as_slice(), most)

@@ -1,4 +1,12 @@
-//! Paths that say something of numerical fields alone.
+//! Looks into paths that say something of numerical fields alone. The last field is eliminated where it is
+//! changed. The lines that ask something of the kept numbers alone are then tried at the record. A letter
+//! of a path says of one field whether it is kept (false) or changed (true).
+//!
+//! Below, `source` gives derived systems, and `steps` counts the pairs of lines combined for them. In
+//! contracts, `serves` has the edits whose systems it gives, and `keeps` the sets of fields whose systems
+//! it keeps. `KeepsChanged` says that a path's system is kept, `IsPathSystem` that a system is the path's,
+//! and `IsProblem` that a problem's parts fit. `Answers` says that a call gives the lines that the
+//! definition has, or tells its first overflow (`told_system`).
 ghost use Rattle.std.specs.Prelude.{◌≡◌, ℕ, ◌+◌, ◌≤◌, ◌<◌, IfOk, IfNone, OnOk, Ok, if◌then◌else◌, false, length, true};
 ghost use Rattle.std.specs.Arc.{arc_value};
 ghost use Rattle.edit_model.specs.FieldSets.{set_of};
@@ -34,40 +42,49 @@ use std::alloc::Global;
 use std::sync::Arc;
 use std::sync::ledger::Ledger;
 
-/// Looks into a path that says something of numerical fields alone, unless its work is more than `most`.
-/// The system is that of the path before its last letter.
+/// A path that says something of numerical fields alone, and the system of the path before its last letter.
+#[derive(Clone, Copy)]
+pub(crate) struct NumberPath<'a> {
+    pub(crate) path: &'a Path,
+    pub(crate) before: &'a Arc<Held>,
+}
+
+/// Looks into a path that says something of numerical fields alone. None where its work, which is 1 and the
+/// pairs of its last step, is more than `most`. The system is that of the path before its last letter; for
+/// the empty path, that of the edits.
 pub(crate) fn look_at_numbers<S: Systems, L: Ledger>(
     alloc: Global,
     source: &mut S,
     problem: &Problem,
-    path: &Path,
-    system: &Arc<Held>,
+    at: NumberPath,
     most: u64,
     steps: &mut Steps<L>,
 ) -> Result<Option<Look>, OutOfMemory>
     requires problem { IsProblem problem.now }
     requires served { S.serves source.old (edits_in problem.now) }
-    requires fit { length path.now ≤ number_count (case_in problem.now) }
-    requires reached { 0 < length path.now → IsOpen (case_in problem.now) (before_last path.now) }
-    requires system { IsPathSystem (case_in problem.now) (before_last path.now) (arc_value system.now) }
-    requires before { KeepsChanged (S.keeps source.old) (case_in problem.now) (before_last path.now) }
+    requires fit { length at.path.now ≤ number_count (case_in problem.now) }
+    requires reached { 0 < length at.path.now → IsOpen (case_in problem.now) (before_last at.path.now) }
+    requires system { IsPathSystem (case_in problem.now) (before_last at.path.now) (arc_value at.before.now) }
+    requires before { KeepsChanged (S.keeps source.old) (case_in problem.now) (before_last at.path.now) }
     requires some { 0 < most }
-    ensures passed { IfOk result (λ told. IfNone told (most < work_of (case_in problem.now) path.now)) }
-    ensures look { IfOk result (TellsLook (case_in problem.now) path.now most) }
-    ensures kept { IfOk result (KeepsOpen (S.keeps source.new) (case_in problem.now) path.now) }
+    ensures passed { IfOk result (λ told. IfNone told (most < work_of (case_in problem.now) at.entry.path.now)) }
+    ensures look { IfOk result (TellsLook (case_in problem.now) at.entry.path.now most) }
+    ensures kept { IfOk result (KeepsOpen (S.keeps source.new) (case_in problem.now) at.entry.path.now) }
     ensures serves { (e : EditsParts) → S.serves source.old e → S.serves source.new e }
     ensures keeps { (f : ℕ) → S.keeps source.old f ≡ true → S.keeps source.new f ≡ true }
     ensures counts { steps.old ≤ steps.new }
 {
-    let pairs = last_pairs(problem, path.letters(), system.system().lines());
+    let pairs = last_pairs(problem, at.path.letters(), at.before.system().lines());
     if pairs >= u128::from(most) {
         return Ok(None);
     }
     let work = 1 + pairs as u64;
-    Ok(Some(looked_at(alloc, source, problem, path, system, work, steps)?))
+    Ok(Some(look_at_path(alloc, source, problem, at, work, steps)?))
 }
 
-/// The system of the numerical fields that the path changes.
+/// The system of the edits without the numerical fields that the path changes, as the source gives it.
+/// What the letters say of categorical fields does not count. An overflow where a number leaves the range
+/// while these are eliminated.
 pub fn system_along<S: Systems, L: Ledger>(
     alloc: Global,
     source: &mut S,
@@ -88,7 +105,8 @@ pub fn system_along<S: Systems, L: Ledger>(
     source.system(alloc, problem.edits, fields, steps)
 }
 
-// The pairs that the last step of the path combines, none where its last field is kept.
+// How many pairs of lines the elimination of the path's last field combines, 0 where that field is kept.
+// `before` has the lines of the system of the path before its last letter.
 fn last_pairs(problem: &Problem, letters: &[bool], before: &[Derived]) -> u128
     requires problem { IsProblem problem.now }
     requires fit { length letters.now ≤ number_count (case_in problem.now) }
@@ -103,7 +121,7 @@ fn last_pairs(problem: &Problem, letters: &[bool], before: &[Derived]) -> u128
     pairs(before, field)
 }
 
-// Whether the last letter says changed.
+// Whether the last letter says changed; false for the empty path.
 fn ends_changed(letters: &[bool]) -> bool
     ensures changed { result ≡ last_letter letters.now }
     ensures some { result ≡ true → 0 < length letters.now }
@@ -111,35 +129,35 @@ fn ends_changed(letters: &[bool]) -> bool
     !letters.is_empty() && letters[letters.len() - 1]
 }
 
-// What becomes of the path, whose work is told.
-fn looked_at<S: Systems, L: Ledger>(
+// What becomes of the path, whose work is told by `work`. It is closed at once where it keeps a field
+// without a value. A number that leaves the range is no fault here, but a state of the path.
+fn look_at_path<S: Systems, L: Ledger>(
     alloc: Global,
     source: &mut S,
     problem: &Problem,
-    path: &Path,
-    system: &Arc<Held>,
+    at: NumberPath,
     work: u64,
     steps: &mut Steps<L>,
 ) -> Result<Look, OutOfMemory>
     requires problem { IsProblem problem.now }
     requires served { S.serves source.old (edits_in problem.now) }
-    requires fit { length path.now ≤ number_count (case_in problem.now) }
-    requires reached { 0 < length path.now → IsOpen (case_in problem.now) (before_last path.now) }
-    requires system { IsPathSystem (case_in problem.now) (before_last path.now) (arc_value system.now) }
-    requires before { KeepsChanged (S.keeps source.old) (case_in problem.now) (before_last path.now) }
+    requires fit { length at.path.now ≤ number_count (case_in problem.now) }
+    requires reached { 0 < length at.path.now → IsOpen (case_in problem.now) (before_last at.path.now) }
+    requires system { IsPathSystem (case_in problem.now) (before_last at.path.now) (arc_value at.before.now) }
+    requires before { KeepsChanged (S.keeps source.old) (case_in problem.now) (before_last at.path.now) }
     ensures work { IfOk result (λ look. look.work ≡ work) }
-    ensures state { IfOk result (λ look. look.state ≡ state_of (case_in problem.now) path.now) }
-    ensures basis { IfOk result (λ look. has_basis look.state ≡ true → IsBasis (case_in problem.now) path.now look.basis) }
-    ensures kept { IfOk result (λ look. look.state ≡ Open → KeepsChanged (S.keeps source.new) (case_in problem.now) path.now) }
+    ensures state { IfOk result (λ look. look.state ≡ state_of (case_in problem.now) at.entry.path.now) }
+    ensures basis { IfOk result (λ look. has_basis look.state ≡ true → IsBasis (case_in problem.now) at.entry.path.now look.basis) }
+    ensures kept { IfOk result (λ look. look.state ≡ Open → KeepsChanged (S.keeps source.new) (case_in problem.now) at.entry.path.now) }
     ensures serves { (e : EditsParts) → S.serves source.old e → S.serves source.new e }
     ensures keeps { (f : ℕ) → S.keeps source.old f ≡ true → S.keeps source.new f ≡ true }
     ensures counts { steps.old ≤ steps.new }
 {
-    if path.keeps_bad(problem.survey, problem.row) {
-        return ended(work, PathState::ClosedBad, system);
+    if at.path.keeps_bad(problem.survey, problem.row) {
+        return ended(work, PathState::ClosedBad, at.before);
     }
-    match next_system(alloc, source, problem, path.letters(), system, steps) {
-        Ok(next) => tried(alloc, problem, path, next, work),
+    match next_system(alloc, source, problem, at.path.letters(), at.before, steps) {
+        Ok(next) => tried(alloc, problem, at.path, next, work),
         Err(
             SystemFault::Overflow {
                 first,
@@ -154,13 +172,14 @@ fn looked_at<S: Systems, L: Ledger>(
                 second,
                 place,
             }),
-            system,
+            at.before,
         ),
         Err(SystemFault::OutOfMemory) => Err(OutOfMemory),
     }
 }
 
-// The look into a path from which the search does not go on.
+// The look into a path from which the search does not go on, as it has no basis of its own. The system at
+// hand stands there instead of one, and is not read.
 fn ended(work: u64, state: PathState, system: &Arc<Held>) -> Result<Look, OutOfMemory>
     ensures work { IfOk result (λ look. look.work ≡ work) }
     ensures state { IfOk result (λ look. look.state ≡ state) }
@@ -172,7 +191,8 @@ fn ended(work: u64, state: PathState, system: &Arc<Held>) -> Result<Look, OutOfM
     })
 }
 
-// The system of the path: where it keeps its last field, that of the path before.
+// The path's system, to be shared. Where the path keeps its last field, or is empty, that is `before`, the
+// system of the path before its last letter. An overflow where the step of its last field leaves the range.
 fn next_system<S: Systems, L: Ledger>(
     alloc: Global,
     source: &mut S,
@@ -202,7 +222,8 @@ fn next_system<S: Systems, L: Ledger>(
     }
 }
 
-// The system of a path that changes its last field, by one step from that of the path before.
+// The system of a path that changes its last field, by one step of elimination from that of the path
+// before. An overflow where that step leaves the range.
 fn changed_system<S: Systems, L: Ledger>(
     alloc: Global,
     source: &mut S,
@@ -236,14 +257,16 @@ pub(crate) fn share(system: &Arc<Held>) -> Result<Arc<Held>, OutOfMemory>
     Ok(Arc::try_clone(system)?)
 }
 
-/// The system, to be shared.
+/// The system, put where several can own it.
 pub(crate) fn alone(alloc: Global, held: Held) -> Result<Arc<Held>, OutOfMemory>
     ensures { IfOk result (λ system. arc_value system ≡ held) }
 {
     Ok(Arc::new(alloc, held)?)
 }
 
-// What becomes of a path that keeps no field without a value and has this system.
+// The look into a path that keeps no field without a value, by its own `system`. Where the path says
+// something of all numerical fields, its boxes are its basis. A line's sum that leaves the range while
+// these are made is an overflow.
 fn tried(
     alloc: Global,
     problem: &Problem,
@@ -284,8 +307,9 @@ fn tried(
     }
 }
 
-// What the first line makes of the path that fails, or whose sum leaves the range, of those that ask
-// something of the kept numbers alone.
+// The state that the lines of the path's system make. Only lines that ask something of the kept numbers
+// alone are tried, in order. The first of them that fails closes the path; one whose sum leaves the range
+// ends it. Without such a line the path is open.
 fn first_failing(problem: &Problem, path: &Path, lines: &[Derived]) -> PathState
     requires problem { IsProblem problem.now }
     requires fit { length path.now ≤ number_count (case_in problem.now) }
@@ -304,8 +328,9 @@ fn first_failing(problem: &Problem, path: &Path, lines: &[Derived]) -> PathState
     PathState::Open
 }
 
-// What the line at this place makes of the path, if it decides. A line in which the last field does not stand, where that is
-// kept, was tried at the path before.
+// What the line at this place of the path's system makes of the path; None where it does not decide. Where
+// the path keeps its last field, a line without that field was tried at the path before, and did not fail
+// there. `kept` has the fields that the path keeps.
 fn tried_line(
     problem: &Problem,
     path: &Path,
@@ -337,7 +362,8 @@ fn tried_line(
     }
 }
 
-// Whether the path keeps its last field, and the line of these factors does not have it.
+// Whether the path keeps its last field, and the line of these factors does not have it. There is a factor
+// for each numerical field, and these stand first in path order, so a letter and its factor have one place.
 #[inline(always)]
 fn was_tried(letters: &[bool], factors: &[i128]) -> bool
     requires { length letters.now ≤ length factors.now }
@@ -349,7 +375,8 @@ fn was_tried(letters: &[bool], factors: &[i128]) -> bool
     factors[letters.len() - 1] == 0
 }
 
-// Whether the line asks something of the kept numbers alone.
+// Whether the line asks something of the kept numbers alone. Only kept fields stand in it, and its sets are
+// whole, so that it asks the same for all codes.
 fn asks_kept(problem: &Problem, path: &Path, kept: FieldSet, line: &Line) -> bool
     requires problem { IsProblem problem.now }
     requires held { keeps_bad problem.now.survey.now.fields problem.now.row.now path.now ≡ false }

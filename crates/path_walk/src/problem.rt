@@ -1,3 +1,7 @@
+//! The problem that a search solves, the error localisation of one record, and how many fields a path says
+//! something of. A path is a list of letters, one for each of the first fields in path order: false keeps
+//! the field, true changes it. In contracts, `IsProblem` says that the parts of a problem fit each other,
+//! and `case_in` has its survey, edits and record.
 ghost use Rattle.std.specs.Prelude.{◌≡◌, ◌<◌, ◌≤◌, ◌==◌, ◌&&◌, ◌||◌, ℕ, false, slice_index_or};
 ghost use Rattle.edit_model.specs.FieldSets.{has_number, set_of};
 ghost use Rattle.edit_line.specs.Shapes.{shape_of};
@@ -9,7 +13,8 @@ use edit_line::Edits;
 use edit_model::{FieldSet, Row, Survey};
 use std::sync::Arc;
 
-/// The error localisation of one record, and the set of all codes of each categorical field.
+/// The error localisation of one record: its survey, the edits that it is searched by, and the record. With
+/// them stands the set of all codes of each categorical field, in declared order.
 #[derive(Clone, Copy)]
 pub struct Problem<'a> {
     pub survey: &'a Survey,
@@ -35,7 +40,8 @@ pub fn field_count(problem: &Problem) -> usize
     problem.survey.fields().len()
 }
 
-/// The set of the numerical fields that the path changes. No memory.
+/// The set of the numerical fields that the path of these letters changes. Those that it does not reach are
+/// not in it. No memory.
 pub(crate) fn changed_numbers(problem: &Problem, letters: &[bool]) -> FieldSet
     requires { IsProblem problem.now }
     ensures set { result ≡ set_of (changed_numbers (case_in problem.now) letters.now) }
@@ -49,7 +55,7 @@ pub(crate) fn changed_numbers(problem: &Problem, letters: &[bool]) -> FieldSet
     set
 }
 
-// The set, with the field where it is changed.
+// The set, and this field too where `changed` is true.
 fn with_changed(set: FieldSet, field: u32, changed: bool) -> FieldSet
     requires { field < 64 }
     ensures { (f : ℕ) → has_number result f ≡ (has_number set f || ((field == f) && changed)) }
@@ -57,7 +63,7 @@ fn with_changed(set: FieldSet, field: u32, changed: bool) -> FieldSet
     if changed { set.with(field) } else { set }
 }
 
-// Whether the letter at the place is there, and changes its field.
+// Whether the path is so long that it has a letter at this place, and the letter says changed.
 fn is_changed(letters: &[bool], place: usize) -> bool
     ensures { result ≡ slice_index_or letters.now place false }
 {

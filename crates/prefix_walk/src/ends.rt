@@ -1,4 +1,6 @@
-//! Where a walk ends.
+//! Where a walk ends, by the state of the path that it took last. In contracts, `TellsStop` and
+//! `TellsClosed` say that an end that is answered is the walk's. Where `TellsClosed` has none, the path is
+//! open.
 ghost use Rattle.std.specs.Prelude.{◌≡◌, IfOk, true};
 ghost use Rattle.path_walk.specs.Bases.{has_basis};
 ghost use Rattle.prefix_walk.specs.inner.WalkEnds.{TellsClosed, TellsStop};
@@ -8,7 +10,9 @@ use edit_paths::{Level, PathState, write_steps};
 use foundation::{OutOfMemory, Sequence};
 use std::alloc::Global;
 
-/// The end, if the walk ends at a path of this state without steps, after this work.
+/// The end of the walk at a path of this state, where it needs no steps. Then a number left the range, or the
+/// path keeps a field without a value. `work` is that of the walk with this path. None for any other state,
+/// which is open or closed by steps.
 pub(crate) fn stop_by(alloc: Global, state: PathState, work: u64) -> Option<WalkEnd>
     ensures { TellsStop state work result }
 {
@@ -22,8 +26,9 @@ pub(crate) fn stop_by(alloc: Global, state: PathState, work: u64) -> Option<Walk
     }
 }
 
-/// The end, if the walk ends at a path of this state by the steps that close it, after this work. The levels are
-/// the lists that lead to the path.
+/// The end of the walk at a path of this state, where steps close it. The levels are the lists that lead to
+/// the path, and `work` is that of the walk with it. None where the path is open. A state at which
+/// [`stop_by`] ends the walk does not come here (`has_basis`).
 pub(crate) fn closed_by(
     alloc: Global,
     state: PathState,

@@ -1,4 +1,6 @@
-//! The walk along one path.
+//! The walk along one path of a record's search. A path is a list of letters, true for a changed field and
+//! false for a kept one. In contracts, `IsWalk` says that record, edits and path are of one survey. `serves`
+//! has the edits whose systems a source gives, and `keeps` the sets of fields whose systems it keeps.
 ghost use Rattle.std.specs.Prelude.{◌≡◌, ◌≤◌, ◌==◌, [], ℕ, IfOk, None, Some, if◌then◌else◌, length, true};
 ghost use Rattle.std.specs.Option.{option_copied};
 ghost use Rattle.edit_line.specs.EditSets.{EditsParts};
@@ -22,8 +24,8 @@ use std::alloc::Global;
 use std::sync::Arc;
 use std::sync::ledger::Ledger;
 
-/// A walk to be taken: along a path of a record, over the edits of its survey, with a budget of work of which some was
-/// spent before.
+/// A walk to be taken along a path of a record, over the edits of its survey. `budget` is the most work, of
+/// which `spent` was done before.
 #[derive(Clone, Copy)]
 pub struct Walk<'a> {
     pub survey: &'a Survey,
@@ -34,8 +36,9 @@ pub struct Walk<'a> {
     pub spent: u64,
 }
 
-/// What the walk ends in: the paths that its path extends are taken from the empty one on, and at last the path, until one is
-/// closed, a number leaves the range, or the work would pass the budget.
+/// What the walk ends in. The paths that its path extends are taken, the empty one first, and at last the
+/// path itself. The first that is closed, for which a number leaves the range, or with which the work would
+/// pass the budget ends it.
 pub fn walk_along<S: Systems, L: Ledger>(
     alloc: Global,
     source: &mut S,
@@ -60,7 +63,9 @@ pub fn walk_along<S: Systems, L: Ledger>(
     take_paths(alloc, source, &problem, walk, steps)
 }
 
-// Takes the paths one after the other, for the problem of the walk.
+// Takes the paths that the walk's path extends, and then that path, one after the other; the first that
+// ends the walk is the answer. `problem` is the walk's record with its edits. `levels` collects the derived
+// lists from which the steps of a closed path are written.
 fn take_paths<S: Systems, L: Ledger>(
     alloc: Global,
     source: &mut S,
@@ -101,7 +106,7 @@ fn take_paths<S: Systems, L: Ledger>(
     Ok(WalkEnd::Open { work })
 }
 
-// The basis of the empty path: the system of no field.
+// The basis from which the empty path is looked into: the lines of the edits, as the source gives them.
 fn first_basis<S: Systems, L: Ledger>(
     alloc: Global,
     source: &mut S,
@@ -123,7 +128,8 @@ fn first_basis<S: Systems, L: Ledger>(
     }
 }
 
-// The bases of a path of these letters: its own, and that of the path before its last letter, if it has one.
+// The bases of the path of these letters: its own, and that of the path before its last letter. The empty
+// path has none before it.
 fn bases_of<'a>(letters: &[bool], own: &'a Basis, before: &'a Basis) -> Bases<'a>
     ensures own { option_copied result.own ≡ Some own.now }
     ensures parent { option_copied result.parent ≡ (if length letters.now == 0 then None else Some before.now) }

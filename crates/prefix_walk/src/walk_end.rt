@@ -1,3 +1,4 @@
+//! What a walk along a path ends in.
 use derivation::Step;
 use foundation::Sequence;
 

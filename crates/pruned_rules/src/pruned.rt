@@ -1,3 +1,7 @@
+//! The lines of a survey's rules with the verdict on each, and the edits that are left of them. In
+//! contracts, `AreNeeded` says that a line kept as needed can fail where the lines left hold. `AreRefuted`
+//! says that the steps of a dropped line refute its negation, and `AllFollow` that all lines follow from the
+//! kept ones.
 ghost use Rattle.std.specs.Prelude.{◌≡◌, ◌≤◌, ◌++◌, ◌∷◌, [], IfOk, OnOk, if◌then◌else◌, length, map};
 ghost use Rattle.edit_line.specs.EditSets.{SayTheRules};
 ghost use Rattle.edit_normal.specs.RuleLines.{normal_lines_of};
@@ -12,10 +16,11 @@ use foundation::OutOfMemory;
 use redundancy::{Verdict, prune};
 use std::alloc::Global;
 
-/// The most work that is done to find whether one line may be dropped.
+/// The most work that is done to find whether one line may be dropped. A line for which it does not suffice
+/// is kept.
 const PRUNING_BUDGET: u64 = 2000;
 
-/// The lines of a survey's rules in order, and for each of them whether it is kept.
+/// The lines of a survey's rules in order, and for each of them whether it is kept, and why, or is dropped.
 #[derive(Debug, Drop)]
 pub struct PrunedRules {
     /// All lines, in normal form.
@@ -24,7 +29,8 @@ pub struct PrunedRules {
     pub verdicts: Vec<Verdict>,
 }
 
-/// The lines of the survey's rules, and which of them may be dropped, since they follow from those that are kept.
+/// The lines of the survey's rules, and the verdict on each. A line is dropped where it follows from those
+/// that are kept, as far as the pruning budget shows it.
 pub fn prune_rules(alloc: Global, survey: &Survey) -> Result<PrunedRules, OutOfMemory>
     ensures lines { IfOk result (λ pruned. pruned.lines.items ≡ normal_lines_of survey.now) }
     ensures verdicts { IfOk result (λ pruned. pruned.verdicts.items ≡ rule_verdicts survey.now) }
@@ -39,8 +45,9 @@ pub fn prune_rules(alloc: Global, survey: &Survey) -> Result<PrunedRules, OutOfM
 }
 
 impl PrunedRules {
-    /// The edits that the survey's records are searched by: the lines that are kept, each numbered by its place among
-    /// all, from 0. A point with codes of the survey meets them exactly where it meets all rules.
+    /// The edits that the survey's records are searched by: the lines that are kept, each numbered by its
+    /// place among all, from 0. The lines and the verdicts are those of the survey's rules. A point with
+    /// codes of the survey meets these edits exactly where it meets all rules (`SayTheRules`).
     pub fn kept_edits(&self, alloc: Global, survey: &Survey) -> Result<Edits, OutOfMemory>
         requires lines { self.now.lines.items ≡ normal_lines_of survey.now }
         requires verdicts { self.now.verdicts.items ≡ rule_verdicts survey.now }
@@ -54,7 +61,7 @@ impl PrunedRules {
     }
 }
 
-// The lines that are kept, each with its place.
+// The lines that are kept, each with its place among all lines.
 fn kept_of(
     alloc: Global,
     lines: &[Line],
@@ -71,7 +78,7 @@ fn kept_of(
     Ok(kept)
 }
 
-// Puts the line last with its number, if it is kept.
+// Appends the line with its number, if it is kept.
 fn push_kept(
     alloc: Global,
     kept: &mut Vec<(u32, Line)>,

@@ -20,7 +20,8 @@ module _ (shape : List Domain) (row : List Value) (budget spent : ℕ) (history 
   abbrev after : List Derived → Verdict
   after next = number_walk shape row budget (spent + (1 + pairs_count lines f)) (with_lines history next) next fields
 
-  pub number-ends : (v : Verdict) → number_end (whole_sets shape) budget spent history lines f ≡ Some v → number_walk shape row budget spent history lines (f ∷ fields) ≡ v
+  pub number-ends : (v : Verdict) → number_end (whole_sets shape) budget spent history lines f ≡ Some v
+      → number_walk shape row budget spent history lines (f ∷ fields) ≡ v
   number-ends v e = by (closing_line (whole_sets shape) lines) (nat_lt budget (spent + (1 + pairs_count lines f))) (step_result lines f) e
     where
       by : (o : Option ℕ) (b : Bool) (r : Result (List Derived) StepOverflow) → ended_by history o (if b then Some (Kept Budget) else overflowed r) ≡ Some v
@@ -31,10 +32,12 @@ module _ (shape : List Domain) (row : List Value) (budget spent : ℕ) (history 
       by None false (Err o) e = cc
 
   pub number-goes : (next : List Derived) → number_end (whole_sets shape) budget spent history lines f ≡ None → step_result lines f ≡ Ok next
-      → number_walk shape row budget spent history lines (f ∷ fields) ≡ number_walk shape row budget (spent + (1 + pairs_count lines f)) (with_lines history next) next fields
+      → number_walk shape row budget spent history lines (f ∷ fields) ≡ number_walk shape row budget (spent + (1 + pairs_count lines f))
+      (with_lines history next) next fields
   number-goes next e made = by (closing_line (whole_sets shape) lines) (nat_lt budget (spent + (1 + pairs_count lines f))) (step_result lines f) e made
     where
-      by : (o : Option ℕ) (b : Bool) (r : Result (List Derived) StepOverflow) → ended_by history o (if b then Some (Kept Budget) else overflowed r) ≡ None → r ≡ Ok next
+      by : (o : Option ℕ) (b : Bool) (r : Result (List Derived) StepOverflow) → ended_by history o (if b then Some (Kept Budget) else overflowed r) ≡ None → r
+          ≡ Ok next
           → dropped_by history o (if b then Kept Budget else or_overflow r after) ≡ after next
       by (Some place) b r e made = absurd (cc)
       by None true r e made = absurd (cc)
@@ -45,7 +48,8 @@ module _ (shape : List Domain) (row : List Value) (budget spent : ℕ) (history 
 
 module _ (shape : List Domain) (budget spent : ℕ) (history : History) (boxes : List BoxFrom) (f : ℕ) (fields : List ℕ) where
   abbrev rest : Verdict
-  rest = code_walk shape budget (spent + (1 + cover_count shape (sets_of boxes) f)) (with_boxes history f (covered_from shape boxes f)) (covered_from shape boxes f) fields
+  rest = code_walk shape budget (spent + (1 + cover_count shape (sets_of boxes) f)) (with_boxes history f (covered_from shape boxes f))
+      (covered_from shape boxes f) fields
 
   pub code-ends : (v : Verdict) → code_end shape budget spent history boxes f ≡ Some v → code_walk shape budget spent history boxes (f ∷ fields) ≡ v
   code-ends v e = by (closing_box (whole_sets shape) (covered_from shape boxes f)) (nat_lt budget (spent + (1 + cover_count shape (sets_of boxes) f))) e
@@ -57,7 +61,8 @@ module _ (shape : List Domain) (budget spent : ℕ) (history : History) (boxes :
       by None false e = absurd (cc)
 
   pub code-goes : code_end shape budget spent history boxes f ≡ None
-      → code_walk shape budget spent history boxes (f ∷ fields) ≡ code_walk shape budget (spent + (1 + cover_count shape (sets_of boxes) f)) (with_boxes history f (covered_from shape boxes f)) (covered_from shape boxes f) fields
+      → code_walk shape budget spent history boxes (f ∷ fields) ≡ code_walk shape budget (spent + (1 + cover_count shape (sets_of boxes) f))
+      (with_boxes history f (covered_from shape boxes f)) (covered_from shape boxes f) fields
   code-goes e = by (closing_box (whole_sets shape) (covered_from shape boxes f)) (nat_lt budget (spent + (1 + cover_count shape (sets_of boxes) f))) e
     where
       by : (o : Option ℕ) (b : Bool) → (if b then Some (Kept Budget) else ended_by (with_boxes history f (covered_from shape boxes f)) o None) ≡ None

@@ -1,4 +1,5 @@
-use Rattle.std.proofs.Common.{◌≡◌, inl, inr, ℕ, zero, suc, ◌+◌, ◌<◌, ◌≤◌, true, if◌then◌else◌, nat_lt, false, List, [], ◌∷◌, All, IfNone, IfOk, Option, Some, None, Result, Ok, Err, drop, get_or, length, refl, sym, ap, ◌∙◌, subst, arith}
+use Rattle.std.proofs.Common.{◌≡◌, inl, inr, ℕ, zero, suc, ◌+◌, ◌<◌, ◌≤◌, true, if◌then◌else◌, nat_lt, false, List, [], ◌∷◌, All, IfNone, IfOk, Option, Some}
+use Rattle.std.proofs.Common.{None, Result, Ok, Err, drop, get_or, length, refl, sym, ap, ◌∙◌, subst, arith}
 use Rattle.std.proofs.lemmas.List.{at_drop_all, at_drop_more}
 use Rattle.edit_model.specs.Surveys.{IsField}
 use Rattle.edit_model.specs.declared.field.Field.{Field}
@@ -38,38 +39,48 @@ within-budget budget work v few = ap (λ b. if b then Kept Budget else v) low
 -- ---- the numerical fields
 
 -- before the field at place i is eliminated
-pub record IsWalking (shape : List Domain) (row : List Value) (budget : ℕ) (start : List Derived) (numbers : List ℕ) (i : ℕ) (spent : ℕ) (history : History) (lines : List Derived) : Type 0 where
+pub record IsWalking (shape : List Domain) (row : List Value) (budget : ℕ) (start : List Derived) (numbers : List ℕ) (i : ℕ) (spent : ℕ) (history : History)
+    (lines : List Derived) : Type 0 where
   pub over : HaveShape shape (lines_of lines)
   pub own : AreOwn (lines_of lines)
   pub rest : number_walk shape row budget spent history lines (drop i numbers) ≡ number_walk shape row budget 1 (with_lines [] start) start numbers
   pub few : spent ≤ budget
 
 module _ (shape : List Domain) (row : List Value) (budget : ℕ) (start : List Derived) where
-  pub walking-start : (spent : ℕ) (history : History) (lines : List Derived) (numbers : List ℕ) → 1 ≤ budget → HaveShape shape (lines_of start) → AreOwn (lines_of start) → lines ≡ start → history ≡ with_lines [] start → spent ≡ 1 → IsWalking shape row budget start numbers 0 spent history lines
+  pub walking-start : (spent : ℕ) (history : History) (lines : List Derived) (numbers : List ℕ) → 1 ≤ budget → HaveShape shape (lines_of start)
+      → AreOwn (lines_of start) → lines ≡ start → history ≡ with_lines [] start → spent ≡ 1 → IsWalking shape row budget start numbers 0 spent history lines
   walking-start spent history lines numbers some over own same made one = record {
     over = subst (λ (ls : List Derived). HaveShape shape (lines_of ls)) (sym same) over;
     own = subst (λ (ls : List Derived). AreOwn (lines_of ls)) (sym same) own;
     rest =
-        ap (λ (ls : List Derived). number_walk shape row budget spent history ls numbers) same ∙ ap (λ (h : History). number_walk shape row budget spent h start numbers) made
+        ap (λ (ls : List Derived). number_walk shape row budget spent history ls numbers) same
+        ∙ ap (λ (h : History). number_walk shape row budget spent h start numbers) made
         ∙ ap (λ n. number_walk shape row budget n (with_lines [] start) start numbers) one;
     few = omega (arith, some, one);
   }
 
   -- the verdict of the walk, where these are its numerical fields
-  all-walk : (numbers : List ℕ) → 1 ≤ budget → numbers ≡ number_fields shape → number_walk shape row budget 1 (with_lines [] start) start numbers ≡ lines_verdict shape row budget start
+  all-walk : (numbers : List ℕ) → 1 ≤ budget → numbers ≡ number_fields shape → number_walk shape row budget 1 (with_lines [] start) start numbers
+      ≡ lines_verdict shape row budget start
   all-walk numbers some are =
       ap (λ (fs : List ℕ). number_walk shape row budget 1 (with_lines [] start) start fs) are
       ∙ sym (within-budget budget 1 (number_walk shape row budget 1 (with_lines [] start) start (number_fields shape)) some)
 
-  module _ (numbers : List ℕ) (i spent : ℕ) (history : History) (lines : List Derived) (before : IsWalking shape row budget start numbers i spent history lines) (below : i < length numbers) where
-    here : number_walk shape row budget spent history lines (get_or numbers i 0 ∷ drop (i + 1) numbers) ≡ number_walk shape row budget 1 (with_lines [] start) start numbers
+  module _ (numbers : List ℕ) (i spent : ℕ) (history : History) (lines : List Derived) (before : IsWalking shape row budget start numbers i spent history lines)
+      (below : i < length numbers) where
+    here : number_walk shape row budget spent history lines (get_or numbers i 0 ∷ drop (i + 1) numbers)
+        ≡ number_walk shape row budget 1 (with_lines [] start) start numbers
     here = sym (at_drop_more (λ (fs : List ℕ). number_walk shape row budget spent history lines fs) numbers i 0 below) ∙ before.rest
 
-    pub walking-ends : (v : Verdict) → number_end (whole_sets shape) budget spent history lines (get_or numbers i 0) ≡ Some v → 1 ≤ budget → numbers ≡ number_fields shape → v ≡ lines_verdict shape row budget start
-    walking-ends v e some are = sym (number-ends shape row budget spent history lines (get_or numbers i 0) (drop (i + 1) numbers) v e) ∙ here ∙ all-walk numbers some are
+    pub walking-ends : (v : Verdict) → number_end (whole_sets shape) budget spent history lines (get_or numbers i 0) ≡ Some v → 1 ≤ budget → numbers
+        ≡ number_fields shape → v ≡ lines_verdict shape row budget start
+    walking-ends v e some are = sym (number-ends shape row budget spent history lines (get_or numbers i 0) (drop (i + 1) numbers) v e) ∙ here
+        ∙ all-walk numbers some are
 
-    pub walking-turn : (more : ℕ) (later : History) (next : List Derived) → number_end (whole_sets shape) budget spent history lines (get_or numbers i 0) ≡ None → step_result lines (get_or numbers i 0) ≡ Ok next
-        → later ≡ with_lines history next → more ≡ spent + (1 + pairs_count lines (get_or numbers i 0)) → more ≤ budget → IsWalking shape row budget start numbers (i + 1) more later next
+    pub walking-turn : (more : ℕ) (later : History) (next : List Derived) → number_end (whole_sets shape) budget spent history lines (get_or numbers i 0) ≡ None
+        → step_result lines (get_or numbers i 0) ≡ Ok next
+        → later ≡ with_lines history next → more ≡ spent + (1 + pairs_count lines (get_or numbers i 0)) → more ≤ budget
+        → IsWalking shape row budget start numbers (i + 1) more later next
     walking-turn more later next none stepped later_is more_is few = record {
       over = HaveShape-result shape lines (get_or numbers i 0) next stepped before.over;
       own = own-step lines (get_or numbers i 0) next stepped;
@@ -80,7 +91,8 @@ module _ (shape : List Domain) (row : List Value) (budget : ℕ) (start : List D
       few = few;
     }
 
-  pub walking-over : (numbers : List ℕ) (i spent : ℕ) (history : History) (lines : List Derived) → IsWalking shape row budget start numbers i spent history lines → length numbers ≤ i → numbers ≡ number_fields shape → 1 ≤ budget
+  pub walking-over : (numbers : List ℕ) (i spent : ℕ) (history : History) (lines : List Derived)
+      → IsWalking shape row budget start numbers i spent history lines → length numbers ≤ i → numbers ≡ number_fields shape → 1 ≤ budget
       → box_walk shape budget spent history lines (failing_from 0 lines row []) ≡ lines_verdict shape row budget start
   walking-over numbers i spent history lines before all are some =
       sym (at_drop_all (λ (fs : List ℕ). number_walk shape row budget spent history lines fs) numbers i all) ∙ before.rest ∙ all-walk numbers some are
@@ -88,12 +100,14 @@ module _ (shape : List Domain) (row : List Value) (budget : ℕ) (start : List D
 -- ---- the categorical fields
 
 -- before the field at place i is eliminated
-pub record IsCoding (fields : List Field) (budget : ℕ) (verdict : Verdict) (codes : List ℕ) (i : ℕ) (spent : ℕ) (history : History) (boxes : List BoxFrom) : Type 0 where
+pub record IsCoding (fields : List Field) (budget : ℕ) (verdict : Verdict) (codes : List ℕ) (i : ℕ) (spent : ℕ) (history : History) (boxes : List BoxFrom) :
+    Type 0 where
   pub over : AreBoxesOver (shape_of fields) boxes
   pub rest : code_walk (shape_of fields) budget spent history boxes (drop i codes) ≡ verdict
   pub few : spent ≤ budget
 
-module _ (fields : List Field) (are_fields : All IsField fields) (budget : ℕ) (verdict : Verdict) (codes : List ℕ) (are : codes ≡ code_fields (shape_of fields)) (i spent : ℕ) (history : History) (boxes : List BoxFrom) (before : IsCoding fields budget verdict codes i spent history boxes) where
+module _ (fields : List Field) (are_fields : All IsField fields) (budget : ℕ) (verdict : Verdict) (codes : List ℕ) (are : codes ≡ code_fields (shape_of fields))
+    (i spent : ℕ) (history : History) (boxes : List BoxFrom) (before : IsCoding fields budget verdict codes i spent history boxes) where
   module _ (below : i < length codes) where
     categorical : has_field (code_fields (shape_of fields)) (get_or codes i 0) ≡ true
     categorical = there-has (get_or codes i 0) (code_fields (shape_of fields)) (subst (λ (fs : List ℕ). IsIn (get_or codes i 0) fs) are (stands codes i below))
@@ -112,14 +126,19 @@ module _ (fields : List Field) (are_fields : All IsField fields) (budget : ℕ) 
     pub coding-ends : (v : Verdict) → code_end (shape_of fields) budget spent history boxes (get_or codes i 0) ≡ Some v → v ≡ verdict
     coding-ends v e = sym (code-ends (shape_of fields) budget spent history boxes (get_or codes i 0) (drop (i + 1) codes) v e) ∙ here_code
 
-    pub coding-turn : (more : ℕ) (later : History) (next : List BoxFrom) → code_end (shape_of fields) budget spent history boxes (get_or codes i 0) ≡ None → next ≡ covered_from (shape_of fields) boxes (get_or codes i 0)
-        → later ≡ with_boxes history (get_or codes i 0) next → more ≡ spent + (1 + cover_count (shape_of fields) (sets_of boxes) (get_or codes i 0)) → more ≤ budget → IsCoding fields budget verdict codes (i + 1) more later next
+    pub coding-turn : (more : ℕ) (later : History) (next : List BoxFrom) → code_end (shape_of fields) budget spent history boxes (get_or codes i 0) ≡ None
+        → next ≡ covered_from (shape_of fields) boxes (get_or codes i 0)
+        → later ≡ with_boxes history (get_or codes i 0) next → more ≡ spent + (1 + cover_count (shape_of fields) (sets_of boxes) (get_or codes i 0))
+        → more ≤ budget → IsCoding fields budget verdict codes (i + 1) more later next
     coding-turn more later next none next_is later_is more_is few = record {
-      over = subst (λ (bs : List BoxFrom). AreBoxesOver (shape_of fields) bs) (sym next_is) (over-covered (shape_of fields) boxes (get_or codes i 0) before.over);
+      over = subst (λ (bs : List BoxFrom). AreBoxesOver (shape_of fields) bs) (sym next_is)
+          (over-covered (shape_of fields) boxes (get_or codes i 0) before.over);
       rest =
           ap (λ n. code_walk (shape_of fields) budget n later next (drop (i + 1) codes)) more_is
-          ∙ ap (λ (h : History). code_walk (shape_of fields) budget (spent + (1 + cover_count (shape_of fields) (sets_of boxes) (get_or codes i 0))) h next (drop (i + 1) codes)) later_is
-          ∙ ap (λ (bs : List BoxFrom). code_walk (shape_of fields) budget (spent + (1 + cover_count (shape_of fields) (sets_of boxes) (get_or codes i 0))) (with_boxes history (get_or codes i 0) bs) bs (drop (i + 1) codes)) next_is
+          ∙ ap (λ (h : History). code_walk (shape_of fields) budget (spent + (1 + cover_count (shape_of fields) (sets_of boxes) (get_or codes i 0))) h next
+          (drop (i + 1) codes)) later_is
+          ∙ ap (λ (bs : List BoxFrom). code_walk (shape_of fields) budget (spent + (1 + cover_count (shape_of fields) (sets_of boxes) (get_or codes i 0)))
+          (with_boxes history (get_or codes i 0) bs) bs (drop (i + 1) codes)) next_is
           ∙ sym (code-goes (shape_of fields) budget spent history boxes (get_or codes i 0) (drop (i + 1) codes) none) ∙ here_code;
       few = few;
     }
@@ -134,7 +153,8 @@ if_none P None is h = h
 if_none P (Some x) is h = absurd (cc)
 
 -- where a sum leaves the range, the line is kept
-pub box-overflow : (shape : List Domain) (budget spent : ℕ) (history : History) (lines : List Derived) (told : Result (List BoxFrom) LineFault) (fault : LineFault) → told ≡ Err fault → Kept Overflow ≡ box_walk shape budget spent history lines told
+pub box-overflow : (shape : List Domain) (budget spent : ℕ) (history : History) (lines : List Derived) (told : Result (List BoxFrom) LineFault)
+    (fault : LineFault) → told ≡ Err fault → Kept Overflow ≡ box_walk shape budget spent history lines told
 box-overflow shape budget spent history lines told fault e = sym (ap (λ r. box_walk shape budget spent history lines r) e)
 
 pub told-same : {E : Type 0} (r : Result Verdict E) (v w : Verdict) → v ≡ w → IfOk r (λ told. told ≡ v) → IfOk r (λ told. told ≡ w)

@@ -1,4 +1,5 @@
-//! The lines that the walk of a line's negation begins with.
+//! The lines that the walk of a line's negation begins with. In contracts, `base_lines` is lines with their
+//! numbers as origins, and `negation_lines` the lines that are left with those of the negation.
 ghost use Rattle.std.specs.Prelude.{◌≡◌, ◌≢◌, ◌≤◌, ◌^◌, ◌++◌, ◌∷◌, [], All, IfOk, OnOk, if◌then◌else◌, length};
 ghost use Rattle.edit_line.specs.EditSets.{base_lines};
 ghost use Rattle.edit_line.specs.Lines.{IsLine};
@@ -10,8 +11,9 @@ use edit_line::{Derived, Line, Origin};
 use foundation::OutOfMemory;
 use std::alloc::Global;
 
-/// The lines that are left, each with its place as its origin, and then those of the negation of a line that
-/// is no equality, numbered after all lines.
+/// The lines of which `left` says that they are left, each with its place among `lines` as its origin, and
+/// then the negation of `line`. The negation's lines are numbered from the count of all `lines` on. `line`
+/// is no equality.
 pub(crate) fn base_of(
     alloc: Global,
     lines: &[Line],
@@ -31,7 +33,8 @@ pub(crate) fn base_of(
     Ok(base)
 }
 
-// Puts the usable lines last, numbered from the first number on.
+// Appends to the base the lines of which `usable` says so at their places. Each has its place, counted from
+// `first` on, as its origin.
 fn push_usable(
     alloc: Global,
     base: &mut Vec<Derived>,
@@ -51,7 +54,7 @@ fn push_usable(
     Ok(())
 }
 
-// Puts the line last, if it is usable.
+// Appends the line with this number as its origin, if it is usable.
 fn push_if(
     alloc: Global,
     base: &mut Vec<Derived>,

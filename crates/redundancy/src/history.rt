@@ -1,4 +1,5 @@
-//! How the lines and the boxes of the walk were made, list by list.
+//! How the lines and the boxes of a walk were made, list by list. The steps of a refutation are written
+//! from it. In contracts, `with_lines` and `with_boxes` are a history with one list more in front.
 ghost use Rattle.std.specs.Prelude.{◌≡◌, [], OnOk};
 ghost use Rattle.edit_paths.specs.Histories.{with_boxes, with_lines};
 
@@ -9,7 +10,8 @@ use foundation::{OutOfMemory, Sequence};
 use std::alloc::Global;
 use std::marker::Model;
 
-/// How the elements of derived lists were made, the last list first.
+/// How the elements of derived lists were made, the last list first. Each list is derived from the one
+/// before it.
 #[derive(Drop)]
 pub(crate) struct History {
     lists: Vec<Sequence<Making>>,
@@ -40,7 +42,8 @@ impl History {
         self.lists.as_slice()
     }
 
-    /// Adds derived lines.
+    /// Adds a list of derived lines, each with how its origin says that it was made of lines of the last
+    /// list. The first list that is added has the lines that the walk begins with.
     pub(crate) fn add_lines(&mut self, alloc: Global, lines: &[Derived]) -> Result<(), OutOfMemory>
         ensures { OnOk result (self.new ≡ with_lines self.old lines.now) }
     {
@@ -52,7 +55,8 @@ impl History {
         Ok(())
     }
 
-    /// Adds the boxes after the field.
+    /// Adds the list of the boxes that are left when `field` is eliminated, which were made of the last
+    /// list. The first boxes are made of lines and of no field; they are added with field 0.
     pub(crate) fn add_boxes(
         &mut self,
         alloc: Global,

@@ -1,7 +1,10 @@
-//! The steps that prove an element of a derived list: each element once, parts before the whole.
+//! The steps that prove an element of a derived list: each element once, parts before the whole. An element
+//! is named by how many lists were derived before its own, and its place there, both from 0. In contracts,
+//! the functions of this file stand under their own names; `with_proof` is what `prove` leaves, and
+//! `step_number` what `number_of` answers.
 ghost use Rattle.std.specs.Prelude.{◌≡◌, IfOk, OnOk, map};
 ghost use Rattle.std.specs.List.{position};
-ghost use Rattle.edit_paths.specs.Histories.{has_step, is_element, maker, step_number, renumbered, steps_to, with_proof};
+ghost use Rattle.edit_paths.specs.Histories.{has_step, is_element, maker, step_number, with_step_numbers, steps_to, with_proof};
 
 use crate::history::History;
 use derivation::Step;
@@ -9,8 +12,8 @@ use edit_paths::{Making, Written, parts_of};
 use foundation::{OutOfMemory, Sequence};
 use std::alloc::Global;
 
-/// The steps that prove the element at this place of the last list: each element has one step, those that it
-/// is made of come before it, the first of them first.
+/// The steps that prove the element at this place of the last list, a line or a box. Each element that it
+/// needs has one step, behind the steps of those that it is made of.
 pub(crate) fn write_steps(
     alloc: Global,
     history: &History,
@@ -24,8 +27,9 @@ pub(crate) fn write_steps(
     Ok(Sequence::from_vec(steps))
 }
 
-// Appends the steps that prove the element at this place of the first of the lists, but for those that stand
-// there.
+// Appends to `done` the steps that prove the element at this place of the first of the lists, but for those
+// that are there already. Each list is derived from the one behind it, so an element that was taken over
+// from there is proved there. A place past the end stands for place 0 there.
 fn prove(
     alloc: Global,
     lists: &[Sequence<Making>],
@@ -55,35 +59,36 @@ fn prove(
             for part in &parts {
                 prove(alloc, before, *part, done)?;
             }
-            let step = renumbered(alloc, before, done, step)?;
+            let step = with_step_numbers(alloc, before, done, step)?;
             done.push(Written { element, step })?;
             Ok(())
         }
     }
 }
 
-// Whether the element has a step. No memory.
+// Whether the element has a step, so that none is written again. No memory.
 fn has_step(done: &[Written], element: (u64, u64)) -> bool
     ensures { result ≡ has_step element done.now }
 {
     done.iter().any(|one| is_element(one.element, element))
 }
 
-// Whether two are the same element. No memory.
+// Whether both name one element: both numbers are equal, that of the lists before its own and its place
+// there. No memory.
 fn is_element(first: (u64, u64), second: (u64, u64)) -> bool
     ensures { result ≡ is_element first second }
 {
     first.0 == second.0 && first.1 == second.1
 }
 
-// The place of the first step that proves the element. No memory.
+// The place of the first step that proves the element, if there is one. No memory.
 fn first_step(done: &[Written], element: (u64, u64)) -> Option<usize>
     ensures { result ≡ position (λ w. is_element w.element element) done.now }
 {
     done.iter().position(|one| is_element(one.element, element))
 }
 
-// The number of the element's step, past the end where it has none. No memory.
+// The number of the element's step, from 0. Where it has none, this is the count of the steps. No memory.
 fn number_of(done: &[Written], element: (u64, u64)) -> u64
     ensures { result ≡ step_number done.now element }
 {
@@ -93,7 +98,9 @@ fn number_of(done: &[Written], element: (u64, u64)) -> u64
     }
 }
 
-// The element at this place of the first of the lists, where it was made. No memory.
+// Where the element at this place of the first of the lists was made: how many lists come before that one,
+// and the place there. An element that was taken over is looked for in the list behind, from
+// which it was taken. No memory.
 fn maker(lists: &[Sequence<Making>], place: u64) -> (u64, u64)
     ensures { result ≡ maker lists.now place }
 {
@@ -107,14 +114,15 @@ fn maker(lists: &[Sequence<Making>], place: u64) -> (u64, u64)
     }
 }
 
-// The number of the step that proves the element at this place of the first of the lists. No memory.
+// The number of the step that proves the element at this place of the first of the lists. That step is in
+// `done`, written before the step that names it. No memory.
 fn part_number(lists: &[Sequence<Making>], done: &[Written], place: u64) -> u64
     ensures { result ≡ step_number done.now (maker lists.now place) }
 {
     number_of(done, maker(lists, place))
 }
 
-// The numbers of the steps that prove the elements at these places of the first of the lists.
+// The numbers of the steps that prove the elements at these places of the first of the lists, in order.
 fn part_numbers(
     alloc: Global,
     lists: &[Sequence<Making>],
@@ -131,14 +139,15 @@ fn part_numbers(
     )
 }
 
-// The step, with the numbers of the steps that prove its parts.
-fn renumbered(
+// The step, where the places of its parts are replaced by the numbers of the steps that prove them. A given
+// line keeps its number.
+fn with_step_numbers(
     alloc: Global,
     lists: &[Sequence<Making>],
     done: &[Written],
     step: &Step,
 ) -> Result<Step, OutOfMemory>
-    ensures { IfOk result (λ with. with ≡ renumbered (λ i. step_number done.now (maker lists.now i)) step.now) }
+    ensures { IfOk result (λ with. with ≡ with_step_numbers (λ i. step_number done.now (maker lists.now i)) step.now) }
 {
     match step {
         Step::Given(number) => Ok(Step::Given(*number)),

@@ -1,3 +1,7 @@
+//! The verdicts on the lines of a survey's rules: each is tried against the lines that are left, the last
+//! line first. In contracts, `AreNeeded` says that a line kept as needed can fail where the lines left hold.
+//! `AreRefuted` says that the steps of a dropped line refute its negation, and `AllFollow` that all lines
+//! follow from the kept ones.
 ghost use Rattle.std.specs.Prelude.{◌≡◌, ◌<◌, All, IfOk, false, length, slice_set, map};
 ghost use Rattle.edit_model.specs.Rows.{IsRow};
 ghost use Rattle.derivation.specs.Refutations.{AllFollow, no_values};
@@ -15,9 +19,10 @@ use edit_model::{Row, Survey};
 use foundation::OutOfMemory;
 use std::alloc::Global;
 
-/// The verdict on each line. They are tried from the last to the first: an equality is kept, and another
-/// line is dropped where the lines that are left then refute its negation, by elimination of all fields with
-/// this much work at most. The lines are over the survey's fields.
+/// The verdict on each line, in the order of the lines. They are tried from the last to the first, and an
+/// equality is kept. Another line is dropped where the lines that are left then refute its negation, by
+/// elimination of all fields. `budget` is the most work that this may take for one line. The lines are over
+/// the survey's fields.
 pub fn prune(
     alloc: Global,
     survey: &Survey,
@@ -45,7 +50,8 @@ pub fn prune(
     Ok(verdicts)
 }
 
-// Reads the lines for what they say: each is in form.
+// Says that each line is in form: a set for each categorical field, a factor for each numerical one, and
+// all numbers in range (`IsLine`). [`prune`] calls it for its proof; nothing is computed.
 fn read_lines(lines: &[Line])
     ensures { All IsLine lines.now }
 {
@@ -54,8 +60,9 @@ fn read_lines(lines: &[Line])
     }
 }
 
-// The verdict on the line at the place, from the lines that are left but for itself; if it is dropped, it is
-// left no more.
+// The verdict on the line at the place, by the other lines that are left. `left` says of each line whether
+// it is left; one that is dropped is left no more. `row` is the record without values, at which the walk
+// tests lines.
 fn try_line(
     alloc: Global,
     survey: &Survey,
@@ -80,7 +87,8 @@ fn try_line(
     Ok(verdict)
 }
 
-// The verdict on the line at the place, from the lines that are left.
+// The verdict on the line at the place, from the lines that are left, of which it is none. An equality is
+// kept; of another line the walk tells. `row` is the record without values.
 fn verdict_on(
     alloc: Global,
     survey: &Survey,
@@ -107,7 +115,7 @@ fn verdict_on(
     Ok(verdict)
 }
 
-// Whether the line is kept.
+// Whether the verdict keeps the line, for whatever reason.
 fn is_kept(verdict: &Verdict) -> bool
     ensures { result ≡ keeps_line verdict.now }
 {

@@ -1,6 +1,8 @@
-//! The walk along the path that changes every field: the numerical fields are eliminated in declared
-//! order, and then the categorical ones, until something absurd is left, or nothing, or the budget is
-//! passed.
+//! The walk along the path that changes every field: the numerical fields are eliminated in declared order,
+//! and then the categorical ones. It ends where something absurd is left, or nothing is, or the budget is
+//! passed. In this file `wholes` has the set of all codes of each categorical field. In contracts,
+//! `number_walk`, `box_walk` and `all_code_walk` are the verdict of the walk from these lines or boxes on.
+//! `number_end` and `IsCodeEnd` tell the verdict of one turn, if that ends the walk.
 ghost use Rattle.std.specs.Prelude.{◌≡◌, ◌≤◌, ◌<◌, ◌+◌, [], All, IfNone, IfOk, None, Ok};
 ghost use Rattle.edit_model.specs.Rows.{IsRow};
 ghost use Rattle.edit_line.specs.Lines.{HaveShape};
@@ -34,7 +36,7 @@ struct NumberWalk {
     spent: u64,
 }
 
-// The walk over the categorical fields.
+// The walk over the categorical fields: the boxes that are left, how they were made, and the work so far.
 #[derive(Drop)]
 struct CodeWalk {
     boxes: Vec<BoxFrom>,
@@ -42,7 +44,10 @@ struct CodeWalk {
     spent: u64,
 }
 
-/// The verdict of the walk over the lines of a negation.
+/// The verdict on a line, by a walk from `base`: the lines that are left and those of its negation. An
+/// absurd line or box drops the line, a number out of range or the budget keeps it. Where all fields are
+/// gone and nothing is absurd, the line is needed. `row` is the record without values. The walk's first
+/// work is 1, so a budget of 0 is passed at once.
 pub(crate) fn verdict_of(
     alloc: Global,
     survey: &Survey,
@@ -67,7 +72,7 @@ pub(crate) fn verdict_of(
     boxes_verdict(alloc, survey, row, &wholes, walk, budget)
 }
 
-// The walk at the empty path.
+// The walk before any field is eliminated: the reduced lines, and work of 1, that of the empty path.
 fn first_walk(alloc: Global, base: Vec<Derived>) -> Result<NumberWalk, OutOfMemory>
     ensures lines { IfOk result (λ walk. walk.lines.items ≡ reduce_derived base.items) }
     ensures history { IfOk result (λ walk. walk.history ≡ with_lines [] (reduce_derived base.items)) }
@@ -83,7 +88,9 @@ fn first_walk(alloc: Global, base: Vec<Derived>) -> Result<NumberWalk, OutOfMemo
     })
 }
 
-// The verdict, if the walk ends before the field is eliminated or in that step; and else the next lines.
+// One turn of the walk: the field is eliminated from its lines, for a work of 1 and the pairs combined. It
+// answers a verdict where a line is absurd, the work would pass the budget, or a number leaves the range.
+// Else it answers None, and the walk has the next lines.
 fn number_turn(
     alloc: Global,
     wholes: &[u64],
@@ -119,8 +126,9 @@ fn number_turn(
     }
 }
 
-// The lines without the field. Those of the walk are reduced, as each list that a step makes; its steps are
-// not counted.
+// The lines without the field, or the overflow of the step that eliminates it. The lines of the walk are
+// reduced, as each list that a step makes, so the faster step for reduced lines serves. `blank` begins a
+// counter of steps, which nobody reads.
 fn next_lines<L: Ledger>(
     alloc: Global,
     lines: &[Derived],
@@ -138,14 +146,16 @@ fn next_lines<L: Ledger>(
     reduced_step(alloc, lines, field, &mut steps)
 }
 
-// The place of the first false line of all codes.
+// The place of the first line that is absurd: it asks something whatever the codes are, and no numbers meet
+// it. None where there is none.
 fn closing_line(wholes: &[u64], lines: &[Derived]) -> Option<usize>
     ensures { result ≡ closing_line wholes.now lines.now }
 {
     lines.iter().position(|derived| derived.line.sets() == wholes && is_false(&derived.line))
 }
 
-// The verdict of the walk where all numerical fields are eliminated.
+// The verdict of the walk from where all numerical fields are eliminated. Lines without numbers are left,
+// and boxes are made of those that fail. A sum that leaves the range keeps the line.
 fn boxes_verdict(
     alloc: Global,
     survey: &Survey,
@@ -167,7 +177,8 @@ fn boxes_verdict(
     }
 }
 
-// The verdict of the walk from these boxes on.
+// The verdict of the walk from these boxes on, which are those of its lines. An absurd line ends it before
+// any box is looked at.
 fn verdict_with_boxes(
     alloc: Global,
     survey: &Survey,
@@ -195,7 +206,8 @@ fn verdict_with_boxes(
     codes_verdict(alloc, survey, wholes, walk, budget)
 }
 
-// The verdict of the walk over the categorical fields.
+// The verdict of the walk over the categorical fields, in declared order. Where no turn ends it, the line
+// is needed.
 fn codes_verdict(
     alloc: Global,
     survey: &Survey,
@@ -218,7 +230,9 @@ fn codes_verdict(
     Ok(Verdict::Kept(Why::Needed))
 }
 
-// The verdict, if the walk ends in the elimination of the field; and else the next boxes.
+// One turn of the walk: the field is eliminated from its boxes, for a work of 1 and the pairs looked at. It
+// answers a verdict where that would pass the budget, or leaves a box of all codes. Else it answers None,
+// and the walk has the next boxes.
 fn code_turn(
     alloc: Global,
     wholes: &[u64],
@@ -248,7 +262,7 @@ fn code_turn(
     }
 }
 
-// The verdict, if a box of all codes is left.
+// The verdict that drops the line, if a box of all codes is left in the walk; else None.
 fn closed_by_box(
     alloc: Global,
     wholes: &[u64],
@@ -262,14 +276,16 @@ fn closed_by_box(
     }
 }
 
-// The place of the first box of all codes.
+// The place of the first box that has all codes of each field, so that all codes are forbidden. None where
+// there is none.
 fn closing_box(wholes: &[u64], boxes: &[BoxFrom]) -> Option<usize>
     ensures { result ≡ closing_box wholes.now boxes.now }
 {
     boxes.iter().position(|b| b.sets() == wholes)
 }
 
-// The verdict that the element at this place of the last list drops the line.
+// The verdict that drops the line, with the steps that prove the absurd line or box at this place of the
+// last list.
 fn dropped(alloc: Global, history: &History, place: usize) -> Result<Verdict, OutOfMemory>
     ensures { IfOk result (λ verdict. verdict ≡ Dropped (steps_to history.now place)) }
 {

@@ -1,5 +1,6 @@
 -- Each number is drawn once, whatever the order of the draws.
-use Rattle.std.proofs.Common.{◌≡◌, ◌≢◌, ℕ, ◌+◌, ◌-◌, ◌<◌, ◌≤◌, Bool, true, false, List, [], ◌∷◌, length, get_or, set, replicate, min, cond, Some, None, nat_lt, eqb, refl, sym, ap, ◌∙◌, ⊎_elim, arith}
+use Rattle.std.proofs.Common.{◌≡◌, ◌≢◌, ℕ, ◌+◌, ◌-◌, ◌<◌, ◌≤◌, Bool, true, false, List, [], ◌∷◌, length, get_or, set, replicate, min, cond, Some, None, nat_lt}
+use Rattle.std.proofs.Common.{eqb, refl, sym, ap, ◌∙◌, ⊎_elim, arith}
 use Rattle.std.specs.List.{Any, count_by}
 use Rattle.std.proofs.lemmas.Bool.Decides.{eqb_tells}
 use Rattle.std.proofs.lemmas.List.Folds.{sum_by-replicate}
@@ -27,7 +28,8 @@ abbrev ends : WorkerState → ℕ
 ends w = one_if w.ended
 
 one_more : (number next : ℕ) → once_below number (next + 1) ≡ once_below number next + one_if (eqb next number)
-one_more number next = ⊎_elim (λ (t : (eqb next number ≡ true) × (next ≡ number)). here t.0 t.1) (λ (f : (eqb next number ≡ false) × (next ≢ number)). apart f.0 f.1) (eqb_tells next number)
+one_more number next = ⊎_elim (λ (t : (eqb next number ≡ true) × (next ≡ number)). here t.0 t.1)
+    (λ (f : (eqb next number ≡ false) × (next ≢ number)). apart f.0 f.1) (eqb_tells next number)
   where
     here : eqb next number ≡ true → next ≡ number → once_below number (next + 1) ≡ once_below number next + one_if (eqb next number)
     here test same = let one : one_if (eqb next number) ≡ one_if true = ap one_if test in omega (arith, one, same)
@@ -45,7 +47,8 @@ module _ (rows next k : ℕ) (workers : List WorkerState) (counted : AreCounted 
       → ends new + (next - rows) ≡ ends drawer + (later - rows)
       → AreCounted rows later (set workers k new)
   counted_set later new drew told = record {
-    each = λ number. (let change = sum_by-set (times number) workers k new idle within in let before = counted.each number in let now = drew number in omega (arith, change, before, now));
+    each = λ number. (let change = sum_by-set (times number) workers k new idle within in let before = counted.each number in let now = drew number in
+        omega (arith, change, before, now));
     ends = (let change = sum_by-set ends workers k new idle within in let before = counted.ends in omega (arith, change, before, told));
   }
 
@@ -57,7 +60,8 @@ module _ (rows next k : ℕ) (workers : List WorkerState) (counted : AreCounted 
   drew_next : next < rows → AreCounted rows (next + 1) (set workers k (having_drawn drawer (Some next)))
   drew_next less = counted_set (next + 1) (having_drawn drawer (Some next)) more (omega (arith, less))
     where
-      more : (number : ℕ) → times number (having_drawn drawer (Some next)) + once_below number (min next rows) ≡ times number drawer + once_below number (min (next + 1) rows)
+      more : (number : ℕ) → times number (having_drawn drawer (Some next)) + once_below number (min next rows)
+          ≡ times number drawer + once_below number (min (next + 1) rows)
       more number =
           let push = sum_by_push (λ (x : ℕ). one_if (eqb x number)) drawer.drawn next in
           let step = one_more number next in
@@ -76,7 +80,8 @@ module _ (rows next k : ℕ) (workers : List WorkerState) (counted : AreCounted 
   counted_draw : AreCounted rows (next_after drawer next) (set workers k (having_drawn drawer (number_for drawer next rows)))
   counted_draw = by drawer.ended refl (nat_lt next rows) refl
     where
-      by : (b : Bool) → drawer.ended ≡ b → (left : Bool) → nat_lt next rows ≡ left → AreCounted rows (cond b next (next + 1)) (set workers k (having_drawn drawer (cond b None (cond left (Some next) None))))
+      by : (b : Bool) → drawer.ended ≡ b → (left : Bool) → nat_lt next rows ≡ left → AreCounted rows (cond b next (next + 1))
+          (set workers k (having_drawn drawer (cond b None (cond left (Some next) None))))
       by true ended left is = told_again ended
       by false goes true is = drew_next (ltb-true next rows is)
       by false goes false is = drew_none goes (ltb-false next rows is)
@@ -90,9 +95,11 @@ counted_start rows workers = record {
   ends = (let none = sum_by-replicate ends workers idle in omega (arith, none));
 }
 
-counted_run : (state : CoreParts) (events : List CoreEvent) → MayCome state events → AreCounted state.rows state.next state.workers → AreCounted state.rows (run state events).next (run state events).workers
+counted_run : (state : CoreParts) (events : List CoreEvent) → MayCome state events → AreCounted state.rows state.next state.workers
+    → AreCounted state.rows (run state events).next (run state events).workers
 counted_run state [] may counted = counted
-counted_run state (event.Draw worker ∷ events) may counted = counted_run (after_draw state worker) events may.2 (counted_draw state.rows state.next worker state.workers counted may.1)
+counted_run state (event.Draw worker ∷ events) may counted = counted_run (after_draw state worker) events may.2
+    (counted_draw state.rows state.next worker state.workers counted may.1)
 counted_run state (event.Publish worker system ∷ events) may counted = counted_run (after state (event.Publish worker system)) events may.2 counted
 counted_run state (event.Claim worker row ranking ∷ events) may counted = counted_run (after state (event.Claim worker row ranking)) events may.2 counted
 

@@ -9,16 +9,19 @@ use Rattle.run_core.specs.Steps.{after, after_draw}
 use Rattle.run_core.specs.declared.event.CoreEvent.{CoreEvent}
 use Rattle.run_core.specs.declared.event.CoreEvent.TheVariants as event
 
-systems_run : (state : CoreParts) (events : List CoreEvent) → MayCome state events → All (IsSystemOf state.edits) state.published → All (IsSystemOf state.edits) (run state events).published
+systems_run : (state : CoreParts) (events : List CoreEvent) → MayCome state events → All (IsSystemOf state.edits) state.published
+    → All (IsSystemOf state.edits) (run state events).published
 systems_run state [] may all = all
 systems_run state (event.Draw worker ∷ events) may all = systems_run (after_draw state worker) events may.2 all
-systems_run state (event.Publish worker system ∷ events) may all = systems_run (after state (event.Publish worker system)) events may.2 (All-push (IsSystemOf state.edits) state.published system all (may.1.1, may.0))
+systems_run state (event.Publish worker system ∷ events) may all = systems_run (after state (event.Publish worker system)) events may.2
+    (All-push (IsSystemOf state.edits) state.published system all (may.1.1, may.0))
 systems_run state (event.Claim worker row ranking ∷ events) may all = systems_run (after state (event.Claim worker row ranking)) events may.2 all
 
 begins_run : (state : CoreParts) (events : List CoreEvent) → Begins state.published (run state events).published
 begins_run state [] = ([], sym (append-nil state.published))
 begins_run state (event.Draw worker ∷ events) = begins_run (after_draw state worker) events
-begins_run state (event.Publish worker system ∷ events) = let rest = begins_run (after state (event.Publish worker system)) events in (system ∷ rest.0, rest.1 ∙ append_assoc state.published (system ∷ []) rest.0)
+begins_run state (event.Publish worker system ∷ events) = let rest = begins_run (after state (event.Publish worker system)) events in
+    (system ∷ rest.0, rest.1 ∙ append_assoc state.published (system ∷ []) rest.0)
 begins_run state (event.Claim worker row ranking ∷ events) = begins_run (after state (event.Claim worker row ranking)) events
 
 run_on : (state : CoreParts) (events later : List CoreEvent) → run state (events ++ later) ≡ run (run state events) later

@@ -1,3 +1,4 @@
+//! The steps of workers, as events, and what they are answered.
 use donor_book::Claim;
 use foundation::Sequence;
 use linear_elim::System;

@@ -1,3 +1,6 @@
+//! What all workers share, as one state, and what an event makes of it. In contracts, `IsDue` says that an
+//! event may come. Its worker is one of these, its system is of the state's edits, and its claim is one of
+//! the book's. `reply_to` and `after` are what an event is answered, and what it leaves.
 ghost use Rattle.std.specs.Prelude.{◌≡◌, ◌+◌, ◌-◌, ◌<◌, ◌^◌, ◌++◌, [], ◌∷◌, length, IfOk, IsOk, OnOk, OnErr};
 ghost use Rattle.std.specs.Arc.{arc_value};
 ghost use Rattle.run_core.specs.States.{start_of};
@@ -13,8 +16,9 @@ use std::alloc::Global;
 use std::marker::Model;
 use std::sync::Arc;
 
-/// What workers that run side by side share: the next row number, the numbers that each drew, the derived systems that
-/// they published, and the book of donors.
+/// What workers that run side by side share: the count of rows and the next row number, and the numbers
+/// that each worker drew. Further the edits, the derived systems that were published of them, and the book
+/// of donors.
 #[derive(Drop)]
 pub struct CoreState {
     rows: u32,
@@ -46,7 +50,8 @@ impl Model for CoreState {
 }
 
 impl CoreState {
-    /// Nothing is drawn, published or claimed yet.
+    /// The state at the start: `workers` workers share `rows` rows, and nothing is drawn, published or
+    /// claimed yet.
     pub fn start(
         alloc: Global,
         rows: u32,
@@ -67,9 +72,10 @@ impl CoreState {
         })
     }
 
-    /// One event. A draw is answered the next number where it is below the count of rows, and else None; None again from
-    /// then on. A system is put at the end of the list, and answered its place there. A claim is answered as the book
-    /// answers it, and takes no memory.
+    /// Takes one event. A draw is answered the next number where it is below the count of rows, and else
+    /// None, and None again from then on. A system is put at the end of the list, and answered its place
+    /// there. A claim is answered as the book answers it, and takes no memory. On a refusal the state is as
+    /// before.
     pub fn step(&mut self, event: CoreEvent) -> Result<CoreReply, OutOfMemory>
         requires { IsDue self.old event }
         ensures reply { IfOk result (λ reply. reply ≡ reply_to self.old event) }
@@ -91,7 +97,8 @@ impl CoreState {
         }
     }
 
-    // The worker's draw.
+    // Draws for this worker: the next number, or None where none is left. The next number rises when the
+    // worker is first told so, too, as it does where tickets are drawn from one counter.
     fn draw(&mut self, worker: u32) -> Result<Option<u32>, OutOfMemory>
         requires { worker < length self.old.workers }
         ensures number { IfOk result (λ number. number ≡ drawn_by self.old worker) }
@@ -105,7 +112,7 @@ impl CoreState {
         Ok(number)
     }
 
-    // Puts the system at the end of the list, and tells its place there.
+    // Puts the system at the end of the published ones, and answers its place there, from 0.
     fn publish(&mut self, system: System) -> Result<u32, OutOfMemory>
         requires { length self.old.published < 2 ^ 32 - 1 }
         ensures place { IfOk result (λ place. place ≡ length self.old.published) }

@@ -1,3 +1,4 @@
+//! A worker as the shared state knows it: what it has drawn.
 ghost use Rattle.std.specs.Prelude.{◌≡◌, ◌+◌, ◌<◌, ◌^◌, IfOk, OnOk, OnErr, replicate};
 ghost use Rattle.run_core.specs.Workers.{having_drawn, idle, next_after, number_for};
 
@@ -28,8 +29,8 @@ impl Worker {
         self.ended
     }
 
-    /// Takes the next number where it is below the count of rows, and is told that none is left where it is not. It is told
-    /// so again from then on.
+    /// Takes `next` where it is below `rows`, the count of rows. Else the worker is told that none is left,
+    /// and is told so again from then on.
     pub fn draw(&mut self, next: u64, rows: u32) -> Result<Option<u32>, OutOfMemory>
         ensures number { IfOk result (λ number. number ≡ number_for self.old next rows) }
         ensures drawn { OnOk result (self.new ≡ having_drawn self.old (number_for self.old next rows)) }
@@ -45,7 +46,7 @@ impl Worker {
     }
 }
 
-/// Workers that have not drawn yet.
+/// A list of `count` workers that have not drawn yet.
 pub fn idle_workers(alloc: Global, count: u32) -> Result<Vec<Worker>, OutOfMemory>
     ensures { IfOk result (λ workers. workers.items ≡ replicate count idle) }
 {

@@ -1,4 +1,5 @@
-use Rattle.std.proofs.Common.{◌≡◌, ℕ, zero, suc, ◌<◌, ◌≤◌, Bool, true, false, true≢false, List, [], ◌∷◌, map, length, length-append, Some, None, Ok, cond, refl, sym, ap, ◌∙◌, subst, nat_eq, nat_lt, arith}
+use Rattle.std.proofs.Common.{◌≡◌, ℕ, zero, suc, ◌<◌, ◌≤◌, Bool, true, false, true≢false, List, [], ◌∷◌, map, length, length-append, Some, None, Ok, cond, refl}
+use Rattle.std.proofs.Common.{sym, ap, ◌∙◌, subst, nat_eq, nat_lt, arith}
 use mathlib.Core.Bool.{◌&&◌}
 use Rattle.std.specs.List.{position, position_or_len}
 use Rattle.std.proofs.lemmas.List.{get_or_append_left, length-map}
@@ -10,7 +11,7 @@ use lib.ListN.{get_or}
 use Rattle.edit_line.specs.EditSets.{EditsParts}
 use Rattle.linear_elim.specs.Systems.{system_at}
 use Rattle.shared_edits.specs.Pools.{Carries, IsOf, IsReaderOf, Knows, PoolParts, Walked, carries, system_of}
-use Rattle.shared_edits.specs.Walks.{WalksOn}
+use Rattle.shared_edits.specs.Walks.{HasWalkedOn}
 use Rattle.shared_edits.specs.declared.entry.Entry.{Entry}
 use Rattle.shared_edits.specs.inner.Entries.{walked_of}
 
@@ -34,7 +35,8 @@ none_passes test es none k d within = by (nat_lt (position_or_len test es) (leng
 module _ (pool : PoolParts) (fields : ℕ) where
   -- the test is true exactly of the pool's system without the fields
   pub carries-is : (w : Walked) → IsOf pool w → carries fields w ≡ true → Carries pool fields w
-  carries-is w of passes = let both = both_true w.fits (nat_eq (system_of w).fields fields) passes in (of.compared.0 both.0, eqb-true (system_of w).fields fields both.1)
+  carries-is w of passes = let both = both_true w.fits (nat_eq (system_of w).fields fields) passes in
+      (of.compared.0 both.0, eqb-true (system_of w).fields fields both.1)
 
   pub is-carries : (w : Walked) → IsOf pool w → Carries pool fields w → carries fields w ≡ true
   is-carries w of is = rw (of.compared.1 is.0) (eq-eqb (system_of w).fields fields is.1)
@@ -42,7 +44,8 @@ module _ (pool : PoolParts) (fields : ℕ) where
   wanted-carries : (e : Entry) → is_wanted fields e ≡ carries fields (walked_of e)
   wanted-carries e = ap (λ n. e.fits && nat_eq n fields) e.carried
 
-  entry_there : (es : List Entry) (k : ℕ) (w : Walked) → k < length (map walked_of es) → (e : Entry) × (get_or (map walked_of es) k w ≡ walked_of e) × (get_or es k e ≡ e) × (k < length es)
+  entry_there : (es : List Entry) (k : ℕ) (w : Walked) → k < length (map walked_of es) → (e : Entry) × (get_or (map walked_of es) k w ≡ walked_of e)
+      × (get_or es k e ≡ e) × (k < length es)
   entry_there [] k w below = absurd (omega (arith, below))
   entry_there (e ∷ es) zero w below = (e, refl, refl, omega arith)
   entry_there (e ∷ es) (suc k) w below = let (d, is, at, within) = entry_there es k w (omega (arith, below)) in (d, is, at, omega (arith, within))
@@ -60,26 +63,36 @@ module _ (pool : PoolParts) (fields : ℕ) where
         true≢false (sym wanted ∙ not_wanted)
 
     -- and one that is found is the pool's system without the fields
-    pub found : (k : ℕ) (e : Entry) → position (is_wanted fields) es ≡ Some k → e ≡ get_or es k e → IsOf pool (walked_of e) × Carries pool fields (walked_of e) × Knows pool fields (map walked_of es)
+    pub found : (k : ℕ) (e : Entry) → position (is_wanted fields) es ≡ Some k → e ≡ get_or es k e → IsOf pool (walked_of e) × Carries pool fields (walked_of e)
+        × Knows pool fields (map walked_of es)
     found k e at is =
         let there = position-Some (is_wanted fields) es k e at in
         let within : k < length (map walked_of es) = (let as_many = length-map es walked_of in omega (arith, as_many, there.0)) in
         let same : get_or (map walked_of es) k (walked_of e) ≡ walked_of e = get_or-map walked_of es k e ∙ ap walked_of (sym is) in
         let here : IsOf pool (walked_of e) = subst (IsOf pool) same (of k (walked_of e) within) in
-        let is_here = carries-is (walked_of e) here (sym (wanted-carries e) ∙ ap (is_wanted fields) is ∙ there.1) in (here, is_here, (k, walked_of e, within, same, is_here))
+        let is_here = carries-is (walked_of e) here (sym (wanted-carries e) ∙ ap (is_wanted fields) is ∙ there.1) in
+        (here, is_here, (k, walked_of e, within, same, is_here))
 
   -- it has the lines of the edits without the fields
   pub carries-lines : (w : Walked) → IsOf pool w → Carries pool fields w → system_at pool.edits fields ≡ Ok (system_of w).lines
   carries-lines w of is =
-      subst (λ (n : ℕ). system_at pool.edits n ≡ Ok (system_of w).lines) is.1 (subst (λ (e : EditsParts). system_at e (system_of w).fields ≡ Ok (system_of w).lines) is.0 of.system.lines_are)
+      subst (λ (n : ℕ). system_at pool.edits n ≡ Ok (system_of w).lines) is.1
+      (subst (λ (e : EditsParts). system_at e (system_of w).fields ≡ Ok (system_of w).lines) is.0 of.system.lines_are)
 
 -- what a reader knows it knows when it has walked on
-pub knows-later : (pool : PoolParts) (fields : ℕ) (old new : List Walked) → WalksOn old new → Knows pool fields old → Knows pool fields new
+pub knows-later : (pool : PoolParts) (fields : ℕ) (old new : List Walked) → HasWalkedOn old new → Knows pool fields old → Knows pool fields new
 knows-later pool fields old new walks knows =
     let (k, w, within, at, is) = knows in
     subst (λ (ws : List Walked). Knows pool fields ws) (sym walks.on)
     (let as_many = length-append old walks.more in (k, w, omega (arith, within, as_many), get_or_append_left old walks.more w k within ∙ at, is))
 
 -- also among the entries that it has stored
-pub stored-knows : (pool : PoolParts) (fields : ℕ) (old new : List Walked) (es : List Entry) → WalksOn old new → map walked_of es ≡ new → Knows pool fields old → Knows pool fields (map walked_of es)
+pub stored-knows : (pool : PoolParts) (fields : ℕ) (old new : List Walked) (es : List Entry) → HasWalkedOn old new → map walked_of es ≡ new
+    → Knows pool fields old → Knows pool fields (map walked_of es)
 stored-knows pool fields old new es walks are knows = subst (λ (ws : List Walked). Knows pool fields ws) (sym are) (knows-later pool fields old new walks knows)
+
+-- and what it does not know after its walk it did not know before
+pub unknown-before : (pool : PoolParts) (fields set : ℕ) (old new : List Walked) → HasWalkedOn old new → set ≡ fields → ¬ Knows pool set new
+    → ¬ Knows pool fields old
+unknown-before pool fields set old new walks same unknown knows =
+    unknown (subst (λ (s : ℕ). Knows pool s new) (sym same) (knows-later pool fields old new walks knows))

@@ -1,4 +1,5 @@
-use Rattle.std.proofs.Common.{◌≡◌, ◌+◌, ℕ, Bool, true, List, [], ◌∷◌, length, length-append, Result, Ok, Err, IfOk, OnOk, sym, ap, ◌∙◌, subst, ⊎_elim, nat_lt, arith}
+use Rattle.std.proofs.Common.{◌≡◌, ◌+◌, ℕ, Bool, true, List, [], ◌∷◌, length, length-append, Result, Ok, Err, IfOk, OnOk, sym, ap, ◌∙◌, subst, ⊎_elim, nat_lt}
+use Rattle.std.proofs.Common.{arith}
 use mathlib.Core.Bool.{◌||◌}
 use Rattle.std.specs.Prelude.{nat_le}
 use Rattle.std.specs.Arc.{arc_value}
@@ -14,7 +15,7 @@ use Rattle.linear_elim.specs.declared.fault.SystemFault.{SystemFault}
 use Rattle.linear_elim.specs.declared.held.Held.{Held}
 use Rattle.linear_elim.specs.declared.held.Held.TheVariants as held
 use Rattle.shared_edits.specs.Pools.{IsFull, IsOf, IsReaderOf, Knows, PoolParts, Walked, carries, keeps_fields, line_count, lines_walked}
-use Rattle.shared_edits.specs.Walks.{Obtains, Publishes, WalksAndObtains}
+use Rattle.shared_edits.specs.Walks.{Obtains, Publishes, WalksThenObtains}
 use Rattle.shared_edits.proofs.FindLaws.{is-carries}
 
 -- What a source of systems keeps.
@@ -23,28 +24,42 @@ use Rattle.shared_edits.proofs.FindLaws.{is-carries}
 abbrev is_full : PoolParts → ℕ → List Walked → Bool
 is_full pool fields reader = nat_le 4096 (length reader) || nat_lt 200000 (lines_walked reader + line_count (system_at pool.edits fields))
 
-full-true : (pool : PoolParts) (fields : ℕ) (reader : List Walked) → IsFull (line_count (system_at pool.edits fields)) reader → is_full pool fields reader ≡ true
+full-true : (pool : PoolParts) (fields : ℕ) (reader : List Walked) → IsFull (line_count (system_at pool.edits fields)) reader → is_full pool fields reader
+    ≡ true
 full-true pool fields reader full = ⊎_elim
     (λ many. true-first _ (nat_lt 200000 (lines_walked reader + line_count (system_at pool.edits fields))) (grind (arith, many)))
     (λ long. true-second (nat_le 4096 (length reader)) _ (grind (arith, long))) full
 
 -- what it knows it keeps
-pub knows-keeps : (pool : PoolParts) (fields : ℕ) (reader : List Walked) → IsReaderOf pool reader → Knows pool fields reader → keeps_fields pool fields reader ≡ true
+pub knows-keeps : (pool : PoolParts) (fields : ℕ) (reader : List Walked) → IsReaderOf pool reader → Knows pool fields reader → keeps_fields pool fields reader
+    ≡ true
 knows-keeps pool fields reader of knows =
     let (k, w, within, at, is) = knows in
     true-first (list_any (carries fields) reader) (is_full pool fields reader)
     (list_any-from_Any (carries fields) reader (k, w, within, at, is-carries pool fields w (subst (λ (v : Walked). IsOf pool v) at (of k w within)) is))
 
 -- what it publishes it knows
-published-knows : (pool : PoolParts) (fields : ℕ) (system : SystemParts) (old new : List Walked) → Publishes system old new → system.edits ≡ pool.edits → system.fields ≡ fields → Knows pool fields new
+published-knows : (pool : PoolParts) (fields : ℕ) (system : SystemParts) (old new : List Walked) → Publishes system old new → system.edits ≡ pool.edits
+    → system.fields ≡ fields → Knows pool fields new
 published-knows pool fields system old new publishes edits same =
     let (w, on, own, is) = publishes in
     subst (λ (ws : List Walked). Knows pool fields ws) (sym on)
-    (let as_many = length-append old (w ∷ []) in (length old, w, omega (arith, as_many), get_or-append_seam old w [] w, (ap (λ (s : SystemParts). s.edits) is ∙ edits, ap (λ (s : SystemParts). s.fields) is ∙ same)))
+    (let as_many = length-append old (w ∷ []) in (
+      length old,
+      w,
+      omega (arith, as_many),
+      get_or-append_seam old w [] w,
+      (
+        ap (λ (s : SystemParts). s.edits) is
+            ∙ edits,
+        ap (λ (s : SystemParts). s.fields) is ∙ same,
+      ),
+    ))
 
 -- and where a system is obtained, it keeps that
-obtains-keeps : (pool : PoolParts) (fields : ℕ) (h : Held) (old new : List Walked) → IsReaderOf pool new → WalksAndObtains pool fields old h new
-    → (system_held h).edits ≡ pool.edits → (system_held h).fields ≡ fields → system_at pool.edits fields ≡ Ok (system_held h).lines → keeps_fields pool fields new ≡ true
+obtains-keeps : (pool : PoolParts) (fields : ℕ) (h : Held) (old new : List Walked) → IsReaderOf pool new → WalksThenObtains pool fields old h new
+    → (system_held h).edits ≡ pool.edits → (system_held h).fields ≡ fields → system_at pool.edits fields ≡ Ok (system_held h).lines
+    → keeps_fields pool fields new ≡ true
 obtains-keeps pool fields h old new of obtains edits same lines = by h edits same lines obtains.2
   where
     by : (h : Held) → (system_held h).edits ≡ pool.edits → (system_held h).fields ≡ fields → system_at pool.edits fields ≡ Ok (system_held h).lines
@@ -55,12 +70,15 @@ obtains-keeps pool fields h old new of obtains edits same lines = by h edits sam
     by (held.Own system) edits same lines obtained = ⊎_elim
         (λ found. absurd found.1)
         (λ made. true-second (list_any (carries fields) new) (is_full pool fields new) (full-true pool fields new
-        (subst (λ (ws : List Walked). IsFull (line_count (system_at pool.edits fields)) ws) (sym made.1.1) (subst (λ (n : ℕ). IsFull n obtains.0) (sym (ap line_count lines)) made.1.0))))
+        (subst (λ (ws : List Walked). IsFull (line_count (system_at pool.edits fields)) ws) (sym made.1.1)
+        (subst (λ (n : ℕ). IsFull n obtains.0) (sym (ap line_count lines)) made.1.0))))
         obtained
 
 -- where a system was answered, it is kept
-pub answered-keeps : (pool : PoolParts) (fields : ℕ) (old new : List Walked) (result : Result Held SystemFault) → IsReaderOf pool new → IfOk result (λ h. (system_held h).edits ≡ pool.edits)
-    → IfOk result (λ h. (system_held h).fields ≡ fields) → Answers (λ h. (system_held h).lines) told_system result (system_at pool.edits fields) → IfOk result (λ h. WalksAndObtains pool fields old h new)
+pub answered-keeps : (pool : PoolParts) (fields : ℕ) (old new : List Walked) (result : Result Held SystemFault) → IsReaderOf pool new
+    → IfOk result (λ h. (system_held h).edits ≡ pool.edits)
+    → IfOk result (λ h. (system_held h).fields ≡ fields) → Answers (λ h. (system_held h).lines) told_system result (system_at pool.edits fields)
+    → IfOk result (λ h. WalksThenObtains pool fields old h new)
     → OnOk result (keeps_fields pool fields new ≡ true)
 answered-keeps pool fields old new (Ok h) of edits same exact obtained = obtains-keeps pool fields h old new of obtained edits same exact
 answered-keeps pool fields old new (Err fault) of edits same exact obtained = tt

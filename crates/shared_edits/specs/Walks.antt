@@ -20,7 +20,7 @@ abbrev pub stands_at : ℕ → List Walked → Bool
 stands_at index walked = list_any (λ (w : Walked). nat_eq index (index_of w)) walked
 
 -- the reader has walked on: each entry more is another's, at an index below 4160 that it had not walked, and none twice
-pub record WalksOn (old new : List Walked) : Type 0 where
+pub record HasWalkedOn (old new : List Walked) : Type 0 where
   pub more : List Walked
   pub on : new ≡ old ++ more
   pub others : All (λ (w : Walked). w.own ≡ false) more
@@ -58,5 +58,5 @@ Obtains pool fields held walked new =
     (Knows pool fields walked × IsShared held × (new ≡ walked)) ⊎ ((¬ Knows pool fields walked) × IsKept held walked new)
 
 -- what obtaining a system answers and leaves
-abbrev pub WalksAndObtains : PoolParts → ℕ → List Walked → Held → List Walked → Type 0
-WalksAndObtains pool fields old held new = (walked : List Walked) × WalksOn old walked × Obtains pool fields held walked new
+abbrev pub WalksThenObtains : PoolParts → ℕ → List Walked → Held → List Walked → Type 0
+WalksThenObtains pool fields old held new = (walked : List Walked) × HasWalkedOn old walked × Obtains pool fields held walked new

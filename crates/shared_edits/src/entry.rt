@@ -1,3 +1,4 @@
+//! An entry of a pool, as a reader keeps it that has walked it.
 ghost use Rattle.std.specs.Prelude.{◌≡◌, length};
 ghost use Rattle.std.specs.Arc.{arc_value};
 ghost use Rattle.linear_elim.specs.Systems.{IsSystem};
@@ -7,8 +8,9 @@ use edit_model::FieldSet;
 use linear_elim::System;
 use std::sync::Arc;
 
-/// An entry that a reader has walked: what shows it, whether the reader published it, whether its edits are the pool's, the
-/// fields of its system, and how many lines that has.
+/// An entry that a reader has walked. The token shows where it stands in the pool. `own` says whether the
+/// reader published it, `fits` whether its edits are the pool's. `fields` are those that its system is
+/// without, and `lines` is how many lines that has.
 #[derive(Drop)]
 pub(crate) struct Entry {
     pub(crate) token: Pushed<Arc<System>>,

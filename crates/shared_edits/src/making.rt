@@ -1,4 +1,7 @@
-//! Systems that a reader does not know: each is made from the system of the most first fields that it knows.
+//! Systems that a reader does not know. Each is made from the known system of the most first fields of its
+//! set. In contracts, `Answers` says that a call gives the lines that the definition has, or tells its first
+//! overflow. `Knows` says that the reader has walked the system without these fields, and `IsFirstOf` that
+//! one set has the first fields of the other. `pairs_at` is how many pairs a fold from the edits combines.
 ghost use Rattle.std.specs.Prelude.{◌≡◌, ◌+◌, ◌≤◌, ℕ, IfOk, map};
 ghost use Rattle.edit_model.specs.FieldSets.{without_number};
 ghost use Rattle.linear_elim.specs.Answers.{Answers};
@@ -17,7 +20,10 @@ use std::alloc::Global;
 use std::sync::ledger::Ledger;
 
 impl Pool {
-    /// The system of the pool's edits without these fields, by one step for each field that is past those of a walked system.
+    /// The system of the pool's edits without these numerical fields, which the reader does not know. It is
+    /// made from the known system of the most first fields of the set, by a step for each field past
+    /// these. Where none is known, the edits are the start. The fault is the first overflow of a step, or
+    /// want of memory.
     pub(crate) fn make<L: Ledger>(
         &self,
         alloc: Global,
@@ -50,7 +56,8 @@ impl Pool {
     }
 }
 
-// The system without the last field of the set too, from the one without the others.
+// The system without all fields of the set, by one step from `others`, the system without all of them but
+// `last`, the last one. The fault is the overflow of that step, or want of memory.
 fn with_last<L: Ledger>(
     alloc: Global,
     others: &System,

@@ -1,4 +1,7 @@
-//! Systems that are found in the pool, or else made and published.
+//! Systems that are found in the pool, or else made and published. In contracts, `WalksThenObtains` says
+//! that the reader walks on first. Then the system is shared with the pool, or the caller's own where the
+//! reader is full. `Knows` says that the reader has walked the system without these fields. `pairs_at` is
+//! how many pairs a fold from the edits combines.
 ghost use Rattle.std.specs.Prelude.{◌≡◌, ◌+◌, ◌≤◌, ℕ, IfOk, OnErr};
 ghost use Rattle.std.specs.Arc.{arc_value};
 ghost use Rattle.edit_model.specs.FieldSets.{with_number};
@@ -10,7 +13,7 @@ ghost use Rattle.linear_elim.specs.Steps.{pairs_count};
 ghost use Rattle.linear_elim.specs.Systems.{AreNumerical, pairs_at, system_at};
 ghost use Rattle.linear_elim.specs.Told.{told_system};
 ghost use Rattle.shared_edits.specs.Pools.{IsReaderOf, Knows};
-ghost use Rattle.shared_edits.specs.Walks.{IsKept, WalksAndObtains, WalksOn};
+ghost use Rattle.shared_edits.specs.Walks.{IsKept, WalksThenObtains, HasWalkedOn};
 
 use crate::pool::Pool;
 use crate::publication::{PublishFault, Published};
@@ -23,9 +26,10 @@ use std::sync::ledger::Ledger;
 use std::sync::{Arc, Wait};
 
 impl Pool {
-    /// The system of the pool's edits without these fields, which are all numerical, as the fold answers it: one that the
-    /// reader has walked by now, or else one that is made and then published. No step is counted for the first fields of the
-    /// set whose system the reader knew, so none where it knew the system itself.
+    /// The system of the pool's edits without these numerical fields, or the overflow, as `fold_system`
+    /// tells them. The reader first walks what others published. A system that it then knows is shared;
+    /// another is made and published, or, where the reader is full, the caller's own. No step is counted
+    /// for fields whose system the reader knew before, where these are the first of the set.
     pub fn obtain<R: Wait, L: Ledger>(
         &self,
         rt: &R,
@@ -40,8 +44,8 @@ impl Pool {
         ensures edits { IfOk result (λ held. (system_held held).edits ≡ self.now.edits) }
         ensures fields { IfOk result (λ held. (system_held held).fields ≡ fields) }
         ensures exact { Answers (λ held. (system_held held).lines) told_system result (system_at self.now.edits fields) }
-        ensures obtained { IfOk result (λ held. WalksAndObtains self.now fields reader.old held reader.new) }
-        ensures refused { OnErr result (WalksOn reader.old reader.new) }
+        ensures obtained { IfOk result (λ held. WalksThenObtains self.now fields reader.old held reader.new) }
+        ensures refused { OnErr result (HasWalkedOn reader.old reader.new) }
         ensures few { steps.new ≤ steps.old + pairs_at self.now.edits fields }
         ensures onwards { (first : ℕ) → IsFirstOf first fields → Knows self.now first reader.old
             → steps.new + pairs_at self.now.edits first ≤ steps.old + pairs_at self.now.edits fields }
@@ -57,8 +61,10 @@ impl Pool {
         }
     }
 
-    /// The system with one numerical field more than `before`, which is past all fields of that: one that the reader has
-    /// walked by now, or else one that is made from `before` by one step and then published.
+    /// The system without one numerical field more than `before`, or the overflow. The field's number is
+    /// above those of all fields of `before`. The reader first walks what others published, and a system
+    /// that it then knows is shared. Another is made from `before` by one step, and published, or, where
+    /// the reader is full, the caller's own.
     pub fn obtain_after<R: Wait, L: Ledger>(
         &self,
         rt: &R,
@@ -77,8 +83,9 @@ impl Pool {
         ensures fields { IfOk result (λ held. (system_held held).fields ≡ with_number before.now.fields field) }
         ensures exact { Answers (λ held. (system_held held).lines) told_system result
             (system_at self.now.edits (with_number before.now.fields field)) }
-        ensures obtained { IfOk result (λ held. WalksAndObtains self.now (with_number before.now.fields field) reader.old held reader.new) }
-        ensures refused { OnErr result (WalksOn reader.old reader.new) }
+        ensures obtained { IfOk result
+            (λ held. WalksThenObtains self.now (with_number before.now.fields field) reader.old held reader.new) }
+        ensures refused { OnErr result (HasWalkedOn reader.old reader.new) }
         ensures few { steps.new ≤ steps.old + pairs_count before.now.lines field }
         ensures known { Knows self.now (with_number before.now.fields field) reader.old → steps.new ≡ steps.old }
         ensures counts { steps.old ≤ steps.new }
@@ -92,7 +99,8 @@ impl Pool {
         }
     }
 
-    // A system that was made, which is published or the caller's own.
+    // What the caller gets of a system that was made: it is published and shared, or the caller's own where
+    // the reader is full.
     fn keep<R: Wait>(
         &self,
         rt: &R,
@@ -115,7 +123,7 @@ impl Pool {
     }
 }
 
-// One more owner of a system.
+// The same system with one more owner: its lines are not copied.
 fn share(system: &Arc<System>) -> Result<Arc<System>, OutOfMemory>
     ensures { IfOk result (λ other. arc_value other ≡ arc_value system.now) }
 {

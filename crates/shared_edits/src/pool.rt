@@ -1,3 +1,7 @@
+//! The pool of derived systems, with what its readers do: walk the entries that others published, find a
+//! system, and publish one. In contracts, `IsReaderOf` says that a reader has walked entries of this pool
+//! alone, and `Knows` that the system without these fields is among them. `HasWalkedOn` says that it has walked
+//! on: each entry more is another's, and none comes twice.
 ghost use Rattle.std.specs.Prelude.{◌≡◌, ◌<◌, ◌≤◌, [], false, IfErr, IfNone, IfOk, IfSome, MatchBool, Ok, OnErr, length, map};
 ghost use Rattle.std.specs.Arc.{arc_value};
 ghost use Rattle.boxcar.specs.Table.{Shows};
@@ -10,7 +14,7 @@ ghost use Rattle.linear_elim.specs.Steps.{pairs_count};
 ghost use Rattle.linear_elim.specs.Systems.{AreNumerical, pairs_at, system_at};
 ghost use Rattle.linear_elim.specs.Told.{told_system};
 ghost use Rattle.shared_edits.specs.Pools.{IsOf, IsReaderOf, Knows};
-ghost use Rattle.shared_edits.specs.Walks.{IsKept, IsPublished, WalksAndObtains, WalksOn, handed_back};
+ghost use Rattle.shared_edits.specs.Walks.{IsKept, IsPublished, WalksThenObtains, HasWalkedOn, handed_back};
 ghost use Rattle.shared_edits.specs.inner.Entries.{WalksAt, walked_of};
 
 use crate::entry::Entry;
@@ -27,7 +31,8 @@ use std::marker::Model;
 use std::sync::ledger::Ledger;
 use std::sync::{Arc, Wait};
 
-/// The derived systems of some edits that were published so far. Threads share it through a `&`.
+/// The derived systems of some edits that were published so far, in the order in which they came. Threads
+/// share it through a `&`.
 #[derive(Drop)]
 pub struct Pool {
     entries: boxcar::Vec<Arc<System>>,
@@ -44,7 +49,7 @@ impl Model for Pool {
 }
 
 impl Pool {
-    /// A pool for the systems of these edits.
+    /// A pool for the systems of these edits, without any as yet.
     pub fn new(alloc: Global, edits: Arc<Edits>) -> Result<Pool, OutOfMemory>
         ensures { IfOk result (λ pool. pool.edits ≡ arc_value edits) }
     {
@@ -54,7 +59,7 @@ impl Pool {
         })
     }
 
-    /// The edits. No memory.
+    /// The edits whose systems the pool has. No memory.
     pub fn edits(&self) -> &Arc<Edits>
         ensures { arc_value result.now ≡ self.now.edits }
     {
@@ -71,7 +76,8 @@ impl Pool {
         })
     }
 
-    // An entry that another reader published. Its edits are compared here, once.
+    // The entry of a system that another reader published, which `token` shows in this pool. Whether its
+    // edits are the pool's is compared here, once for all look-ups.
     fn entry_of(&self, token: Pushed<Arc<System>>) -> Entry
         requires { Shows self.now.entries token }
         ensures of { IsOf self.now (walked_of result) }
@@ -88,7 +94,7 @@ impl Pool {
         }
     }
 
-    // The system at a walked entry.
+    // The system at an entry of this pool that a reader walked.
     fn system_at<'a>(&'a self, entry: &Entry) -> &'a Arc<System>
         requires { Shows self.now.entries entry.now.token }
         ensures { result.now ≡ entry.now.token.value }
@@ -96,7 +102,8 @@ impl Pool {
         self.entries.value(&entry.token)
     }
 
-    /// The system without these fields, if it is that of a walked entry.
+    /// The system without these fields, if it is that of a walked entry with the pool's edits; else None.
+    /// The reader walks no further.
     pub(crate) fn known<'a>(
         &'a self,
         entries: &WalkedEntries,
@@ -113,7 +120,8 @@ impl Pool {
         Some(self.system_at(&entries.as_slice()[place]))
     }
 
-    // Walks the entry at this index, unless it is the reader's own. False where there is none yet.
+    // Puts the entry at this index of the pool behind those that were walked, unless it is the reader's
+    // own, which stands there already. False where the pool has no entry at the index yet.
     fn walk_at(&self, walked: &mut WalkedEntries, index: usize) -> bool
         requires { length walked.old < 4160 }
         ensures { MatchBool result (WalksAt self.now index walked.old walked.new) (walked.new ≡ walked.old) }
@@ -127,11 +135,12 @@ impl Pool {
         true
     }
 
-    // Walks the entries that are new to the reader, up to the first that is not there.
+    // Walks the entries that are new to the reader, up to the first index at which the pool has none yet.
+    // It goes to index 4,159 and to 4,160 entries at most, for which the reader's room was taken.
     fn walk(&self, reader: &mut Reader)
         requires { IsReaderOf self.now reader.old }
         ensures reader { IsReaderOf self.now reader.new }
-        ensures walked { WalksOn reader.old reader.new }
+        ensures walked { HasWalkedOn reader.old reader.new }
         ensures few { length reader.new ≤ 4160 }
     {
         while reader.next < MOST_WALKED && reader.walked.len() < MOST_WALKED {
@@ -142,12 +151,13 @@ impl Pool {
         }
     }
 
-    /// The system without these fields, if the reader has walked it by now. It walks the entries that are new to it, up to
-    /// index 4,159, and 4,160 entries at most. No memory, and it waits for nobody.
+    /// The system without these fields, if the reader has walked it by now; else None. It first walks the
+    /// entries that are new to it, up to index 4,159, and 4,160 entries at most. No memory, and it waits
+    /// for nobody.
     pub fn find<'a>(&'a self, reader: &mut Reader, fields: FieldSet) -> Option<&'a Arc<System>>
         requires { IsReaderOf self.now reader.old }
         ensures reader { IsReaderOf self.now reader.new }
-        ensures walked { WalksOn reader.old reader.new }
+        ensures walked { HasWalkedOn reader.old reader.new }
         ensures few { length reader.new ≤ 4160 }
         ensures edits { IfSome result (λ system. (arc_value system.now).edits ≡ self.now.edits) }
         ensures fields { IfSome result (λ system. (arc_value system.now).fields ≡ fields) }
@@ -159,8 +169,9 @@ impl Pool {
         self.known(&reader.walked, fields)
     }
 
-    /// Stores a system of the pool's edits for all readers, unless this reader has walked 4,096 entries, or they have more
-    /// than 200,000 lines with those of the system.
+    /// Stores a system of the pool's edits for all readers. It comes back as `Full` where this reader has
+    /// walked 4,096 entries, or where these and the system have more than 200,000 lines. It comes back in
+    /// the fault where memory is refused.
     pub fn publish<R: Wait>(
         &self,
         rt: &R,
@@ -194,7 +205,7 @@ impl Pool {
     }
 }
 
-// The system, to be shared.
+// The system, put where several can own it; it comes back in the fault where memory is refused.
 fn share_new(alloc: Global, system: System) -> Result<Arc<System>, PublishFault>
     ensures shared { IfOk result (λ shared. arc_value shared ≡ system) }
     ensures back { IfErr result (λ fault. handed_back fault ≡ system) }

@@ -1,3 +1,4 @@
+//! What became of a system that a reader was to publish.
 use linear_elim::{Held, System};
 use std::sync::Arc;
 
@@ -10,7 +11,7 @@ pub enum Published {
     Full(System),
 }
 
-/// Why a system was not published.
+/// Why a system was not published, with the system itself.
 #[derive(Drop)]
 pub enum PublishFault {
     /// Memory was refused, and the system comes back.

@@ -1,3 +1,4 @@
+//! What one worker knows of a pool.
 ghost use Rattle.std.specs.Prelude.{◌≡◌, length, true};
 ghost use Rattle.std.specs.Arc.{arc_value};
 ghost use Rattle.linear_elim.specs.Systems.{IsSystem};
@@ -10,7 +11,8 @@ use linear_elim::System;
 use std::marker::Model;
 use std::sync::Arc;
 
-/// What one worker has walked of a pool, with room for all that it ever walks.
+/// What one worker has walked of a pool, with room for all that it ever walks. `next` is the index from
+/// which it walks on. What others published at lower indexes is walked.
 #[derive(Drop)]
 pub struct Reader {
     pub(crate) walked: WalkedEntries,
@@ -29,7 +31,9 @@ impl Model for Reader {
     ghost invariant = { λ r. (length r.walked ≤ 4160) × IsBehind r.next (map walked_of r.walked) };
 }
 
-/// The entry of a system that the reader published itself.
+/// The entry of a system that the reader published itself, so that it is not walked again. `token` shows
+/// where it stands, `fields` are those that it is without, and it has `lines` lines. Its edits are the
+/// pool's.
 pub(crate) fn own_entry(token: Pushed<Arc<System>>, fields: FieldSet, lines: u64) -> Entry
     requires system { IsSystem (arc_value token.value) }
     requires fields { fields ≡ (arc_value token.value).fields }

@@ -1,3 +1,5 @@
+//! A pool and one of its readers as a source of systems, which is what the search and the giving of values
+//! ask.
 use crate::pool::Pool;
 use crate::reader::Reader;
 use edit_line::Edits;
@@ -8,8 +10,9 @@ use std::alloc::Global;
 use std::sync::ledger::Ledger;
 use std::sync::{Arc, Wait};
 
-/// A pool, and what one worker has walked of it, as a source of systems: those of the pool's edits, where the reader is of
-/// this pool. It keeps the systems that the reader knows, and all where the reader publishes no more.
+/// A pool, and what one worker has walked of it, as a source of systems of the pool's edits. The reader is
+/// of this pool. It keeps the systems that the reader knows. Those for which the reader is full count as
+/// kept too, though they are made anew each time.
 #[derive(Drop)]
 pub struct PoolSource<'a, R: Wait> {
     pub pool: &'a Pool,
@@ -25,6 +28,7 @@ impl<'a, R: Wait> Systems for PoolSource<'a, R> {
 
     ghost keeps = { λ s fields. keeps_fields s.pool.now fields s.reader.now };
 
+    // What [`Pool::obtain`] answers. The edits are not read, as they are the pool's.
     fn system<L: Ledger>(
         &mut self,
         alloc: Global,
@@ -35,6 +39,8 @@ impl<'a, R: Wait> Systems for PoolSource<'a, R> {
         self.pool.obtain(self.rt, alloc, self.reader, fields, steps)
     }
 
+    // What [`Pool::obtain_after`] answers: the system with `field` more than `before`, by one step from that
+    // where the reader does not know it.
     fn system_after<L: Ledger>(
         &mut self,
         alloc: Global,

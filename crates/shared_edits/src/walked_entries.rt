@@ -1,3 +1,5 @@
+//! The entries that a reader has walked, with tables by which they are found. In contracts, `HasPlaces` and
+//! `HasOwn` say that a table is right for the entries, and `spare` is for how many more it has room.
 ghost use Rattle.std.specs.Prelude.{◌≡◌, ◌+◌, ◌++◌, ◌∷◌, ◌<◌, ◌≤◌, ◌||◌, [], IfOk, List, length, nat_le, nat_lt};
 ghost use Rattle.std.specs.HashMap as table;
 ghost use Rattle.std.specs.HashSet as set;
@@ -14,17 +16,17 @@ use std::alloc::Global;
 use std::collections::{HashMap, HashSet};
 use std::marker::Model;
 
-// A reader with so many entries publishes no system.
+// A reader that has walked this many entries publishes no system.
 const MOST_SYSTEMS: usize = 4096;
 
-// Nor one with which its entries would have more lines than these.
+// A reader publishes no system with which its entries would have more lines than these.
 const MOST_LINES: u64 = 200_000;
 
-/// The indexes at which a reader looks, and the entries that it walks, at most.
+/// The most indexes at which a reader looks, and the most entries that it walks.
 pub(crate) const MOST_WALKED: usize = 4160;
 
-/// The entries that a reader has walked, in their order, and beside them what it asks of them most, so that no look-up goes
-/// through all of them. The room for 4,160 entries is taken at the start.
+/// The entries that a reader has walked, in their order. Beside them stands what it asks of them most, so
+/// that no look-up goes through all of them. The room for 4,160 entries is taken at the start.
 #[derive(Drop)]
 pub(crate) struct WalkedEntries {
     entries: Vec<Entry>,
@@ -50,7 +52,7 @@ impl Model for WalkedEntries {
 }
 
 impl WalkedEntries {
-    /// No entries.
+    /// No entries, with room for all that a reader walks.
     pub(crate) fn new(alloc: Global) -> Result<WalkedEntries, OutOfMemory>
         ensures { IfOk result (λ walked. walked ≡ []) }
     {
@@ -69,36 +71,38 @@ impl WalkedEntries {
         self.entries.as_slice()
     }
 
-    /// How many there are.
+    /// How many entries there are.
     pub(crate) fn len(&self) -> usize
         ensures { result ≡ length self.now }
     {
         self.entries.len()
     }
 
-    /// Whether the reader published the entry at this index.
+    /// Whether the reader published the entry at this index of the pool itself.
     pub(crate) fn has_own(&self, index: usize) -> bool
         ensures { result ≡ has_own index self.now }
     {
         self.own.contains(&index)
     }
 
-    /// The place of the first entry that has these fields and the pool's edits.
+    /// The place, among these entries, of the first that has these fields and the pool's edits; None where
+    /// none has them.
     pub(crate) fn place_of(&self, fields: FieldSet) -> Option<usize>
         ensures { result ≡ place_of fields self.now }
     {
         self.places.get(&fields.bits()).copied()
     }
 
-    /// Whether a reader with these entries publishes no system of so many lines: they are 4,096, or have more than 200,000
-    /// lines with these.
+    /// Whether a reader with these entries publishes no system of `count` lines: they are 4,096, or have
+    /// more than 200,000 lines with these.
     pub(crate) fn is_full(&self, count: u64) -> bool
         ensures { result ≡ (nat_le most_systems (length self.now) || nat_lt most_lines (sum_by (λ e. e.lines) self.now + count)) }
     {
         self.entries.len() >= MOST_SYSTEMS || self.lines.saturating_add(count) > MOST_LINES
     }
 
-    /// One entry more. No memory.
+    /// Appends an entry, and notes it in the tables. There is room for it, as the entries are fewer than
+    /// 4,160. No memory.
     pub(crate) fn push(&mut self, entry: Entry)
         requires { length self.old < 4160 }
         ensures { self.new ≡ self.old ++ entry ∷ [] }
@@ -110,7 +114,8 @@ impl WalkedEntries {
     }
 }
 
-// Notes the place of one entry more, if it has the pool's edits and is the first with its fields.
+// Notes the place of an appended entry by its fields, if it has the pool's edits and is the first with
+// these fields. A later one is not noted, as the first serves. The table has room.
 #[tactic(auto, using(crate::proofs::TableLaws::position_push))]
 fn note_place(places: &mut HashMap<u64, usize>, entry: &Entry, place: usize)
     requires { 0 < table.spare places.old }
@@ -125,7 +130,7 @@ fn note_place(places: &mut HashMap<u64, usize>, entry: &Entry, place: usize)
     }
 }
 
-// Notes the index of one entry more, if it is the reader's own.
+// Notes the index of an appended entry, if it is the reader's own. The set has room.
 fn note_own(own: &mut HashSet<usize>, entry: &Entry)
     requires { 0 < set.spare own.old }
     ensures own { (entries : List Entry) → HasOwn own.old entries → HasOwn own.new (entries ++ entry.now ∷ []) }

@@ -9,8 +9,12 @@ use Rattle.back_subst.proofs.code.code_for.Goals as goal
 
 pub settle_others-requires-clause-few : goal.settle_others-requires-clause-few
 settle_others-requires-clause-few c =
-    let (left, blank, boxes, made, few, free) = c.requires.some in
-    (left, blank, subst (λ (bs : List (List ℕ)). AreCountableBut (shape_of c.args.survey.now.fields) c.args.row.now left c.args.field bs) (sym (same-boxes _ _ _ c.in-Ok.ensures.sets made)) few)
+    let (left, blank, boxes, made, few, free) = c.requires.some in (
+      left,
+      blank,
+      subst (λ (bs : List (List ℕ)). AreCountableBut (shape_of c.args.survey.now.fields) c.args.row.now left c.args.field bs)
+          (sym (same-boxes _ _ _ c.in-Ok.ensures.sets made)) few,
+    )
 
 pub first_free-requires-clause-some : goal.first_free-requires-clause-some
 first_free-requires-clause-some c =
@@ -18,12 +22,14 @@ first_free-requires-clause-some c =
     let same : sets_of c.in-Ok.boxes.items ≡ boxes = same-boxes _ _ _ c.in-Ok.ensures.sets made in (
       code,
       subst (λ (bs : List (List ℕ)). IsFree (shape_of c.args.survey.now.fields) bs c.args.field code)
-          (ap (λ (bs : List (List ℕ)). boxes_for (shape_of c.args.survey.now.fields) c.args.row.now left c.args.field bs) (sym same) ∙ sym (c.in_ok-settled.ensures.sets left blank) ∙ ap (λ (bs : List BoxFrom). sets_of bs) (sym c.deref.ensures.value)) free,
+          (ap (λ (bs : List (List ℕ)). boxes_for (shape_of c.args.survey.now.fields) c.args.row.now left c.args.field bs) (sym same)
+          ∙ sym (c.in_ok-settled.ensures.sets left blank) ∙ ap (λ (bs : List BoxFrom). sets_of bs) (sym c.deref.ensures.value)) free,
     )
 
 pub returns : goal.returns
 returns c = (
   sets_of c.in-Ok.boxes.items,
   c.in-Ok.ensures.sets,
-  λ left blank. subst (λ (bs : List (List ℕ)). IsGivenCode (IsFree (shape_of c.args.survey.now.fields) bs c.args.field) c.args.target c.first_free.result) (ap (λ (bs : List BoxFrom). sets_of bs) c.deref.ensures.value ∙ c.in_ok-settled.ensures.sets left blank) c.first_free.ensures,
+  λ left blank. subst (λ (bs : List (List ℕ)). IsGivenCode (IsFree (shape_of c.args.survey.now.fields) bs c.args.field) c.args.target c.first_free.result)
+      (ap (λ (bs : List BoxFrom). sets_of bs) c.deref.ensures.value ∙ c.in_ok-settled.ensures.sets left blank) c.first_free.ensures,
 )

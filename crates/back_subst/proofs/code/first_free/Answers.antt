@@ -6,11 +6,14 @@ use Rattle.categ_combine.specs.BoxLists.{sets_of}
 use Rattle.back_subst.specs.inner.Codes.{is_free_at}
 use Rattle.back_subst.proofs.CodeSteps.{none-free, some-given, target-free}
 use Rattle.back_subst.proofs.code.first_free.Goals as goal
-use Rattle.back_subst.proofs.code.first_free.Goals.{After-first_among, After-place_among-place, else-target-size-via-then-target-size+else-is_free, else-target-size-via-else-target-size}
+use Rattle.back_subst.proofs.code.first_free.Goals.{After-first_among, After-place_among-place, else-target-size-via-then-target-size+else-is_free}
+use Rattle.back_subst.proofs.code.first_free.Goals.{else-target-size-via-else-target-size}
 
 module _ (c : After-place_among-place) where
   place-is : c.place_among-place.result ≡ place_of (shape_of c.args.survey.now.fields) c.args.field
-  place-is = c.place_among-place.ensures ∙ ap (λ fs. place_in fs c.args.field) (same_codes c.codes.result.now c.args.survey.now.fields (shape_of c.args.survey.now.fields) c.codes.ensures refl)
+  place-is =
+      c.place_among-place.ensures ∙ ap (λ fs. place_in fs c.args.field)
+      (same_codes c.codes.result.now c.args.survey.now.fields (shape_of c.args.survey.now.fields) c.codes.ensures refl)
 
   place-below : c.place_among-place.result < length (code_fields (shape_of c.args.survey.now.fields))
   place-below = let found = place-within (code_fields (shape_of c.args.survey.now.fields)) c.args.field c.requires.field in omega (arith, place-is, found)
@@ -24,7 +27,8 @@ is_free-requires c = (shape_of c.args.survey.now.fields, c.requires.over, place-
 pub returns-then-is_free : goal.returns-then-is_free
 returns-then-is_free c =
     let at = (goal.at.returns-then-is_free c).After-place_among-place in
-    target-free (shape_of c.args.survey.now.fields) (sets_of c.args.boxes.now) c.args.field c.args.target c.size_of-size.result c.place_among-place.result (size-is at) (place-is at) c.if-target-size.true (sym c.if-is_free.ensures)
+    target-free (shape_of c.args.survey.now.fields) (sets_of c.args.boxes.now) c.args.field c.args.target c.size_of-size.result c.place_among-place.result
+    (size-is at) (place-is at) c.if-target-size.true (sym c.if-is_free.ensures)
 
 pub first_among-requires : goal.first_among-requires
 first_among-requires c = (shape_of c.args.survey.now.fields, c.requires.over, place-below (goal.at.first_among-requires c).After-place_among-place)
@@ -39,9 +43,11 @@ module _ (c : After-first_among) where
 pub returns : goal.returns
 returns c =
     let at = (goal.at.returns c).After-place_among-place in
-    some-given (shape_of c.args.survey.now.fields) (sets_of c.args.boxes.now) c.args.field c.args.target c.size_of-size.result c.place_among-place.result (size-is at) (place-is at) (out (goal.at.returns c).After-first_among) c.first_among.result c.first_among.ensures.free c.in-Some.code c.in-Some.is
+    some-given (shape_of c.args.survey.now.fields) (sets_of c.args.boxes.now) c.args.field c.args.target c.size_of-size.result c.place_among-place.result
+    (size-is at) (place-is at) (out (goal.at.returns c).After-first_among) c.first_among.result c.first_among.ensures.free c.in-Some.code c.in-Some.is
 
 pub unreachable-requires : goal.unreachable-requires
 unreachable-requires c =
     let at = (goal.at.unreachable-requires c).After-place_among-place in
-    none-free (shape_of c.args.survey.now.fields) (sets_of c.args.boxes.now) c.args.field c.args.target c.size_of-size.result c.place_among-place.result (size-is at) (place-is at) c.requires.some c.first_among.result c.first_among.ensures.none c.in-None.is
+    none-free (shape_of c.args.survey.now.fields) (sets_of c.args.boxes.now) c.args.field c.args.target c.size_of-size.result c.place_among-place.result
+    (size-is at) (place-is at) c.requires.some c.first_among.result c.first_among.ensures.none c.in-None.is

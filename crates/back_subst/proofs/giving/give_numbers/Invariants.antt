@@ -11,9 +11,12 @@ use Rattle.back_subst.proofs.giving.give_numbers.Given as goal
 
 abbrev pub invariant-loop-field : goal.invariant-loop-field
 invariant-loop-field g l =
-    ((e : EditsParts) → g.S.Systems.serves l.initial.source e → g.S.Systems.serves l.source e) × ((f : ℕ) → g.S.Systems.keeps l.initial.source f ≡ true → g.S.Systems.keeps l.source f ≡ true)
+    ((e : EditsParts) → g.S.Systems.serves l.initial.source e → g.S.Systems.serves l.source e)
+    × ((f : ℕ) → g.S.Systems.keeps l.initial.source f ≡ true → g.S.Systems.keeps l.source f ≡ true)
     × ((f : ℕ) → has_number l.left f ≡ has_field (drop l.field-index l.order) f) × ((row : List Value) (given : List ℕ)
-    → IsUnderWay l.survey (start_lines (arc_value l.edits)) (target_of (option_copied l.donor)) row given l.order l.initial.new
-    → IsUnderWay l.survey (start_lines (arc_value l.edits)) (target_of (option_copied l.donor)) row (given ++ take l.field-index l.order) (drop l.field-index l.order) l.new)
-    × AreComputedBy (start_lines (arc_value l.edits)) (target_of (option_copied l.donor)) l.new (take l.field-index l.order) (drop l.field-index l.order)
+    → IsUnderWay l.task.survey.now (start_lines (arc_value l.task.edits.now)) (target_of (option_copied l.task.donor)) row given l.order l.initial.new
+    → IsUnderWay l.task.survey.now (start_lines (arc_value l.task.edits.now)) (target_of (option_copied l.task.donor)) row
+    (given ++ take l.field-index l.order) (drop l.field-index l.order) l.new)
+    × AreComputedBy (start_lines (arc_value l.task.edits.now)) (target_of (option_copied l.task.donor)) l.new (take l.field-index l.order)
+    (drop l.field-index l.order)
     × (l.initial.steps ≤ l.steps)

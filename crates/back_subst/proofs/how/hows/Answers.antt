@@ -24,17 +24,23 @@ loop-place-preserved c =
     let h : ℕ → How = λ f. how_of (option_copied c.args.donor) f (value_of c.args.row.now f) in
     let t = has_number c.args.changed in
     let order = path_order c.args.survey.now.fields in
-    let below : c.loop-place.place < length order = omega (arith, c.loop-place-test.true, order-length c.args.survey.now.fields, ap (λ (fs : List Field). length fs) c.fields.ensures.fields) in
+    let below : c.loop-place.place < length order = omega
+    (arith, c.loop-place-test.true, order-length c.args.survey.now.fields, ap (λ (fs : List Field). length fs) c.fields.ensures.fields) in
     elim c.if-has.branch [
       | then-has+in_ok-push w ↦
           ap (λ v. v.items) w.how-is ∙ w.in_ok-push.ensures.items
-          ∙ ap (λ x. c.loop-place.how.items ++ x ∷ []) (w.how_of.ensures ∙ ap (λ (v : Value). how_of (option_copied c.args.donor) c.path_field-field.result v) w.value.ensures)
-          ∙ told-more h t order c.loop-place.place c.path_field-field.result c.loop-place.how.items below c.path_field-field.ensures.field c.loop-place.invariant (sym c.has.ensures ∙ w.if-has.true)
+          ∙ ap (λ x. c.loop-place.how.items ++ x ∷ []) (w.how_of.ensures
+          ∙ ap (λ (v : Value). how_of (option_copied c.args.donor) c.path_field-field.result v) w.value.ensures)
+          ∙ told-more h t order c.loop-place.place c.path_field-field.result c.loop-place.how.items below c.path_field-field.ensures.field
+          c.loop-place.invariant (sym c.has.ensures ∙ w.if-has.true)
       | else-has w ↦
-          ap (λ v. v.items) w.how-is ∙ told-same h t order c.loop-place.place c.path_field-field.result c.loop-place.how.items below c.path_field-field.ensures.field c.loop-place.invariant (sym c.has.ensures ∙ w.if-has.false)
+          ap (λ v. v.items) w.how-is ∙ told-same h t order c.loop-place.place c.path_field-field.result c.loop-place.how.items below
+          c.path_field-field.ensures.field c.loop-place.invariant (sym c.has.ensures ∙ w.if-has.false)
     ]
 
 pub returns : goal.returns
 returns c =
-    told-all (λ f. how_of (option_copied c.args.donor) f (value_of c.args.row.now f)) (has_number c.args.changed) (path_order c.args.survey.now.fields) c.loop-place.place c.loop-place.how.items
-    (omega (arith, c.loop-place-test.false, order-length c.args.survey.now.fields, ap (λ (fs : List Field). length fs) c.fields.ensures.fields)) c.loop-place.invariant
+    told-all (λ f. how_of (option_copied c.args.donor) f (value_of c.args.row.now f)) (has_number c.args.changed) (path_order c.args.survey.now.fields)
+    c.loop-place.place c.loop-place.how.items
+    (omega (arith, c.loop-place-test.false, order-length c.args.survey.now.fields, ap (λ (fs : List Field). length fs) c.fields.ensures.fields))
+    c.loop-place.invariant

@@ -7,4 +7,5 @@ use Rattle.back_subst.specs.Gifts.{how_of}
 use Rattle.back_subst.proofs.how.hows.Given as goal
 
 abbrev pub invariant-loop-place : goal.invariant-loop-place
-invariant-loop-place l = l.how.items ≡ map (λ f. how_of (option_copied l.donor) f (value_of l.row f)) (filter (has_number l.changed) (take l.place (path_order l.survey.fields)))
+invariant-loop-place l =
+    l.how.items ≡ map (λ f. how_of (option_copied l.donor) f (value_of l.row f)) (filter (has_number l.changed) (take l.place (path_order l.survey.fields)))

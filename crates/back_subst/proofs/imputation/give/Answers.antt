@@ -9,27 +9,34 @@ use Rattle.back_subst.proofs.StartLaws.{in-order}
 use Rattle.back_subst.proofs.imputation.give.Goals as goal
 
 pub returns-in-Ok-hows-clause-imputed : goal.returns-in-Ok-hows-clause-imputed
-returns-in-Ok-hows-clause-imputed g c = imputed-from c.args.survey.now c.args.row.now c.args.changed (option_copied c.args.donor) (start_lines (arc_value c.args.edits.now)) c.in-Ok.new c.in-Ok.ensures.given
+returns-in-Ok-hows-clause-imputed g c =
+    imputed-from c.args.survey.now c.args.row.now c.args.changed (option_copied c.args.donor) (start_lines (arc_value c.args.edits.now)) c.in-Ok.new
+    c.in-Ok.ensures.given
 
 pub returns-in-Ok-hows-clause-differs : goal.returns-in-Ok-hows-clause-differs
 returns-in-Ok-hows-clause-differs g c =
-    gift-differs c.args.survey.now c.args.row.now c.in-Ok.new c.args.changed (option_copied c.args.donor) c.case_known.ensures.case.fields c.requires.path.is_row
+    gift-differs c.args.survey.now c.args.row.now c.in-Ok.new c.args.changed (option_copied c.args.donor) c.case_known.ensures.case.fields
+    c.requires.path.is_row
     (in-order c.args.survey.now.fields)
-    (imputed-from c.args.survey.now c.args.row.now c.args.changed (option_copied c.args.donor) (start_lines (arc_value c.args.edits.now)) c.in-Ok.new c.in-Ok.ensures.given)
+    (imputed-from c.args.survey.now c.args.row.now c.args.changed (option_copied c.args.donor) (start_lines (arc_value c.args.edits.now)) c.in-Ok.new
+    c.in-Ok.ensures.given)
 
 pub returns-in-Ok-hows-clause-due : goal.returns-in-Ok-hows-clause-due
 returns-in-Ok-hows-clause-due g c = λ due shown.
     let survey = c.args.survey.now in
     let e = arc_value c.args.edits.now in
     let imputed = imputed-from survey c.args.row.now c.args.changed (option_copied c.args.donor) (start_lines e) c.in-Ok.new c.in-Ok.ensures.given in
-    absurd (no-fault survey e c.args.row.now c.args.changed (option_copied c.args.donor) (over survey e c.args.row.now c.args.changed c.case_known.ensures.case c.requires.path) c.in-Ok.new imputed.fits imputed.keeps c.in-Ok.ensures.given.first
+    absurd (no-fault survey e c.args.row.now c.args.changed (option_copied c.args.donor)
+    (over survey e c.args.row.now c.args.changed c.case_known.ensures.case c.requires.path) c.in-Ok.new imputed.fits imputed.keeps
+    c.in-Ok.ensures.given.first
     c.in-Ok.ensures.computed c.in-Ok.ensures.tested due shown)
 
 pub returns-in-Err-clause-due : goal.returns-in-Err-clause-due
 returns-in-Err-clause-due g c = λ due shown.
     let survey = c.args.survey.now in
     let e = arc_value c.args.edits.now in
-    elim (told-fault survey e c.args.row.now c.args.changed (option_copied c.args.donor) (over survey e c.args.row.now c.args.changed c.case_known.ensures.case c.requires.path) c.in-Err.fault
+    elim (told-fault survey e c.args.row.now c.args.changed (option_copied c.args.donor)
+    (over survey e c.args.row.now c.args.changed c.case_known.ensures.case c.requires.path) c.in-Err.fault
     (λ field line is. c.in-Err.ensures.bound field line (ap Err is)) (λ rule is. c.in-Err.ensures.test rule (ap Err is)) due shown) [
       | inl same ↦ inl (ap Err same)
       | inr none ↦ inr (ap Err none)

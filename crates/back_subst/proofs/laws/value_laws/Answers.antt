@@ -9,4 +9,5 @@ pub returns-clause-ends : goal.returns-clause-ends
 returns-clause-ends c survey row left f i x exact above there = ends-are (AllowsNumber survey row left f) i x exact above there
 
 pub returns-clause-taken : goal.returns-clause-taken
-returns-clause-taken c survey row left f target x y target_above x_above y_above there given = taken-where (AllowsNumber survey row left f) target x y target_above x_above y_above there given
+returns-clause-taken c survey row left f target x y target_above x_above y_above there given =
+    taken-where (AllowsNumber survey row left f) target x y target_above x_above y_above there given

@@ -8,7 +8,11 @@ pub returns-clause-change : goal.returns-clause-change
 returns-clause-change c d budget is path weight cert e = change-choice d is budget path weight cert e
 
 pub returns-clause-least : goal.returns-clause-least
-returns-clause-least c survey edits row path is same choice = (choice-least survey edits row is same path choice, choice-first survey edits row is same path choice)
+returns-clause-least c survey edits row path is same choice = (
+  choice-least survey edits row is same path choice,
+  choice-first survey edits row is same path
+      choice,
+)
 
 pub returns-clause-contradiction : goal.returns-clause-contradiction
 returns-clause-contradiction c d budget is cert e p meets = contradictory d is budget cert e p meets

@@ -11,5 +11,6 @@ use Rattle.localise_tree.proofs.all_kept.holds_throughout.Goals as goal
 
 pub all_hold-requires-clause-over : goal.all_hold-requires-clause-over
 all_hold-requires-clause-over c =
-    subst (λ (ds : List Derived). All (λ (d : Derived). HasShape (shape_of c.args.survey.now.fields) d.line) ds) (sym (c.reduced.ensures.exact ∙ ap (λ (e : EditsParts). reduce_derived (base_lines e.lines)) c.deref.ensures))
+    subst (λ (ds : List Derived). All (λ (d : Derived). HasShape (shape_of c.args.survey.now.fields) d.line) ds)
+    (sym (c.reduced.ensures.exact ∙ ap (λ (e : EditsParts). reduce_derived (base_lines e.lines)) c.deref.ensures))
     (lines-over (case_of c.args.survey.now (arc_value c.args.edits.now) c.args.row.now) c.requires.case)

@@ -11,6 +11,6 @@ returns-clause-leaves g c =
     let all : field_count (case_in c.args.problem.now) - 0 ≡ field_count (case_in c.args.problem.now) = omega arith in
     c.from_vec.ensures
     ∙ c.in_ok-push_leaves.ensures.leaves
-    ∙ ap (λ (ls : List Leaf). ls ++ leaves_below (case_in c.args.problem.now) (taken_paths c.args.taken.now) c.new-letters.result.items) c.new-leaves.ensures.items
-    ∙ ap (λ (p : List Bool). leaves_below (case_in c.args.problem.now) (taken_paths c.args.taken.now) p) c.new-letters.ensures.items
+    ∙ ap (λ (ls : List Leaf). ls ++ leaves_below (case_in c.args.problem.now) (taken_paths c.args.taken.now) c.new.result.items) c.new-3.ensures.items
+    ∙ ap (λ (p : List Bool). leaves_below (case_in c.args.problem.now) (taken_paths c.args.taken.now) p) c.new.ensures.items
     ∙ ap (λ n. leaves_from (case_in c.args.problem.now) (taken_paths c.args.taken.now) n []) all

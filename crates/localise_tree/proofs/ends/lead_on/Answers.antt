@@ -11,30 +11,40 @@ use Rattle.localise_tree.proofs.ends.lead_on.Goals as goal
 
 module _ (c : goal.In_ok-place_end-2) where
   led : next_paths (case_in c.args.problem.now) c.args.node.now.path ≡ kept_next c.args.node.now.path ∷ changed_next c.args.node.now.path ∷ []
-  led = leads-both (case_in c.args.problem.now) c.args.node.now.path c.leads_on.result (c.leads_on.ensures ∙ ap (λ (s : PathState). is_open s && not (is_complete (case_in c.args.problem.now) c.args.node.now.path)) c.requires.look.state) c.if-not-leads_on.false
+  led =
+      leads-both (case_in c.args.problem.now) c.args.node.now.path c.leads_on.result
+      (c.leads_on.ensures ∙ ap (λ (s : PathState). is_open s && not (is_complete (case_in c.args.problem.now) c.args.node.now.path)) c.requires.look.state)
+      c.if-not-leads_on.false
 
 pub returns-clause-paths : goal.returns-clause-paths
 returns-clause-paths c =
-    led-paths (case_in c.args.problem.now) c.args.node.now.path c.args.ends.now.items c.place_end.new.ends.items c.place_end-2.new.ends.items c.in_ok-kept.kept c.in_ok-changed.changed c.in_ok-place_end.ensures c.in_ok-place_end-2.ensures
+    led-paths (case_in c.args.problem.now) c.args.node.now.path c.args.ends.now.items c.place_end.new.ends.items c.place_end-2.new.ends.items
+    c.in_ok-kept.kept c.in_ok-changed.changed c.in_ok-place_end.ensures c.in_ok-place_end-2.ensures
     c.requires.ends c.in_ok-kept.ensures.node c.in_ok-changed.ensures.node (led c) c.in_ok-kept.ensures.path c.in_ok-changed.ensures.path
 
 pub returns-clause-nodes : goal.returns-clause-nodes
 returns-clause-nodes c =
-    led-nodes (case_in c.args.problem.now) c.args.node.now.path c.args.ends.now.items c.place_end.new.ends.items c.place_end-2.new.ends.items c.in_ok-kept.kept c.in_ok-changed.changed c.in_ok-place_end.ensures c.in_ok-place_end-2.ensures
+    led-nodes (case_in c.args.problem.now) c.args.node.now.path c.args.ends.now.items c.place_end.new.ends.items c.place_end-2.new.ends.items
+    c.in_ok-kept.kept c.in_ok-changed.changed c.in_ok-place_end.ensures c.in_ok-place_end-2.ensures
     c.requires.ends c.in_ok-kept.ensures.node c.in_ok-changed.ensures.node
 
 pub returns-clause-kept : goal.returns-clause-kept
 returns-clause-kept c keeps kept are =
-    let opened = leads-open c.args.look.state (is_complete (case_in c.args.problem.now) c.args.node.now.path) c.leads_on.result c.leads_on.ensures c.if-not-leads_on.false in
-    let short = leads-short (case_in c.args.problem.now) c.args.node.now.path c.args.look.state c.leads_on.result c.requires.node.fit c.leads_on.ensures c.if-not-leads_on.false in
-    led-kept (case_in c.args.problem.now) c.args.node.now.path c.args.ends.now.items c.place_end.new.ends.items c.place_end-2.new.ends.items c.in_ok-kept.kept c.in_ok-changed.changed c.in_ok-place_end.ensures c.in_ok-place_end-2.ensures keeps are
+    let opened = leads-open c.args.look.state (is_complete (case_in c.args.problem.now) c.args.node.now.path) c.leads_on.result c.leads_on.ensures
+    c.if-not-leads_on.false in
+    let short = leads-short (case_in c.args.problem.now) c.args.node.now.path c.args.look.state c.leads_on.result c.requires.node.fit c.leads_on.ensures
+    c.if-not-leads_on.false in
+    led-kept (case_in c.args.problem.now) c.args.node.now.path c.args.ends.now.items c.place_end.new.ends.items c.place_end-2.new.ends.items
+    c.in_ok-kept.kept c.in_ok-changed.changed c.in_ok-place_end.ensures c.in_ok-place_end-2.ensures keeps are
     (child-kept (case_in c.args.problem.now) c.args.node.now c.in_ok-kept.kept false c.requires.node short c.in_ok-kept.ensures.path keeps (kept opened))
-    (child-kept (case_in c.args.problem.now) c.args.node.now c.in_ok-changed.changed true c.requires.node short c.in_ok-changed.ensures.path keeps (kept opened))
+    (child-kept (case_in c.args.problem.now) c.args.node.now c.in_ok-changed.changed true c.requires.node short c.in_ok-changed.ensures.path keeps
+    (kept opened))
 
 pub place_end-requires : goal.place_end-requires
 place_end-requires c = parted (case_in c.args.problem.now) c.args.ends.now.items c.in_ok-kept.kept c.requires.ends c.in_ok-kept.ensures.node c.requires.order
 
 pub place_end-requires-2 : goal.place_end-requires-2
 place_end-requires-2 c =
-    parted-next (case_in c.args.problem.now) c.args.ends.now.items c.place_end.new.ends.items c.in_ok-kept.kept c.in_ok-changed.changed c.in_ok-place_end.ensures
+    parted-next (case_in c.args.problem.now) c.args.ends.now.items c.place_end.new.ends.items c.in_ok-kept.kept c.in_ok-changed.changed
+    c.in_ok-place_end.ensures
     c.requires.ends c.in_ok-kept.ensures.node c.in_ok-changed.ensures.node c.requires.order

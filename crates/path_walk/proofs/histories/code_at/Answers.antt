@@ -12,10 +12,12 @@ use Rattle.path_walk.proofs.RowCodes.{row-code}
 use Rattle.path_walk.proofs.histories.code_at.Goals as goal
 
 pub value-requires : goal.value-requires
-value-requires c = omega (arith, c.requires.within, row-length (case_in c.args.problem.now).survey.fields (case_in c.args.problem.now).row c.requires.problem.case.row)
+value-requires c =
+    omega (arith, c.requires.within, row-length (case_in c.args.problem.now).survey.fields (case_in c.args.problem.now).row c.requires.problem.case.row)
 
 -- the code of a value that the record has at a categorical field is one of the field's
-code-known : (c : SearchCase) → IsCase c → (f : ℕ) → TakesCodes (shape_of c.survey.fields) f → (v : Value) → value_of c.row f ≡ v → code_in v < size_of (shape_of c.survey.fields) f
+code-known : (c : SearchCase) → IsCase c → (f : ℕ) → TakesCodes (shape_of c.survey.fields) f → (v : Value) → value_of c.row f ≡ v
+    → code_in v < size_of (shape_of c.survey.fields) f
 code-known c is f takes (Code k) own = row-code c is f k own
 code-known c is f takes (Number x) own = takes
 code-known c is f takes Bad own = takes
@@ -24,4 +26,5 @@ pub returns-clause-known : goal.returns-clause-known
 returns-clause-known c =
     let own = c.code_number.ensures ∙ ap code_in c.value.ensures in
     subst (λ (n : ℕ). n < size_of (shape_of (case_in c.args.problem.now).survey.fields) c.args.field) (sym own)
-    (code-known (case_in c.args.problem.now) c.requires.problem.case c.args.field c.requires.takes (value_of (case_in c.args.problem.now).row c.args.field) refl)
+    (code-known (case_in c.args.problem.now) c.requires.problem.case c.args.field c.requires.takes (value_of (case_in c.args.problem.now).row c.args.field)
+    refl)

@@ -14,20 +14,24 @@ use Rattle.path_walk.proofs.histories.path_boxes.Goals as goal
 
 pub boxes_after-requires-clause-over : goal.boxes_after-requires-clause-over
 boxes_after-requires-clause-over c =
-    subst (λ (bs : List BoxFrom). AreBoxesOver (shape_of c.args.problem.now.survey.now.fields) bs) (sym c.requires.before) (over-along (case_in c.args.problem.now) c.requires.problem.case (before_last c.args.letters.now))
+    subst (λ (bs : List BoxFrom). AreBoxesOver (shape_of c.args.problem.now.survey.now.fields) bs) (sym c.requires.before)
+    (over-along (case_in c.args.problem.now) c.requires.problem.case (before_last c.args.path.letters.now))
 
 pub boxes_after-requires-clause-apart : goal.boxes_after-requires-clause-apart
-boxes_after-requires-clause-apart c = subst (λ (bs : List BoxFrom). LieApart bs) (sym c.requires.before) (apart-along (case_in c.args.problem.now) (before_last c.args.letters.now))
+boxes_after-requires-clause-apart c =
+    subst (λ (bs : List BoxFrom). LieApart bs) (sym c.requires.before) (apart-along (case_in c.args.problem.now) (before_last c.args.path.letters.now))
 
 pub boxes_after-requires-clause-takes : goal.boxes_after-requires-clause-takes
 boxes_after-requires-clause-takes c =
-    subst (λ f. TakesCodes (shape_of c.args.problem.now.survey.now.fields) f) (sym c.requires.field) (last-takes (case_in c.args.problem.now) c.args.letters.now c.requires.many c.requires.fit c.requires.problem.case)
+    subst (λ f. TakesCodes (shape_of c.args.problem.now.survey.now.fields) f) (sym c.requires.field)
+    (last-takes (case_in c.args.problem.now) c.args.path.letters.now c.requires.many c.requires.fit c.requires.problem.case)
 
 pub returns : goal.returns
 returns c =
     record {
       boxes =
           c.in_ok-new.ensures.ok ∙ c.in_ok-boxes.ensures.boxes
-          ∙ ap (λ f. boxes_by (case_in c.args.problem.now) (slice_index_or c.args.letters.now (length c.args.letters.now - 1) false) c.args.before.now f) c.requires.field
-          ∙ last-along (case_in c.args.problem.now) c.args.letters.now c.requires.many c.requires.fit c.args.before.now c.requires.before;
+          ∙ ap (λ f. boxes_by (case_in c.args.problem.now) (slice_index_or c.args.path.letters.now (length c.args.path.letters.now - 1) false)
+          c.args.before.now f) c.requires.field
+          ∙ last-along (case_in c.args.problem.now) c.args.path.letters.now c.requires.many c.requires.fit c.args.before.now c.requires.before;
     }

@@ -11,5 +11,6 @@ path_boxes-requires-clause-before c = c.last_boxes.ensures ∙ ap (λ levels. bo
 
 pub returns-clause-boxes : goal.returns-clause-boxes
 returns-clause-boxes c =
-    last-lists (case_in c.args.problem.now) c.args.letters.now c.requires.many c.requires.fit c.args.levels.now.items c.push.new.self.items (Boxes c.path_field-field.result c.in_ok-boxes.boxes) c.path_field-field.result (arc_value c.in_ok-boxes.boxes)
+    last-lists (case_in c.args.problem.now) c.args.path.letters.now c.requires.many c.requires.fit c.args.levels.now.items c.push.new.self.items
+    (Boxes c.path_field-field.result c.in_ok-boxes.boxes) c.path_field-field.result (arc_value c.in_ok-boxes.boxes)
     c.requires.before c.in_ok-push.ensures.items refl refl c.path_field-field.ensures.field c.in_ok-boxes.ensures.boxes

@@ -7,7 +7,8 @@ use Rattle.path_walk.proofs.histories.push_lines.Goals.{else-not-is_empty-via-th
 
 pub returns-clause-history : goal.returns-clause-history
 returns-clause-history g c =
-    c.in_ok-push_system.ensures.history ∙ lines-pushed (case_in c.args.problem.now) c.args.letters.now c.args.levels.now.items c.requires.few c.requires.before (elim c.else-not-is_empty.branch [
+    c.in_ok-push_system.ensures.history ∙ lines-pushed (case_in c.args.problem.now) c.args.path.letters.now c.args.levels.now.items c.requires.few
+    c.requires.before (elim c.else-not-is_empty.branch [
       | else-not-is_empty-via-then-not-is_empty+else-not-letters w ↦ inr (grind (arith, w.if-not-is_empty.ensures), w.if-not-letters.false)
-      | else-not-is_empty-via-else-not-is_empty w ↦ inl ((Decides-eqb (length c.args.letters.now) 0).0 (sym w.if-not-is_empty.ensures))
+      | else-not-is_empty-via-else-not-is_empty w ↦ inl ((Decides-eqb (length c.args.path.letters.now) 0).0 (sym w.if-not-is_empty.ensures))
     ])

@@ -4,4 +4,5 @@ use Rattle.path_walk.proofs.HistoryLaws.{boxes-first}
 use Rattle.path_walk.proofs.histories.record_boxes.Goals as goal
 
 pub returns-clause-boxes : goal.returns-clause-boxes
-returns-clause-boxes g c = c.in_ok-new.ensures.ok ∙ c.in_ok-boxes.ensures.boxes ∙ sym (boxes-first (case_in c.args.problem.now) c.args.letters.now c.requires.few)
+returns-clause-boxes g c =
+    c.in_ok-new.ensures.ok ∙ c.in_ok-boxes.ensures.boxes ∙ sym (boxes-first (case_in c.args.problem.now) c.args.path.letters.now c.requires.few)

@@ -14,7 +14,8 @@ pub returns : goal.returns
 returns c =
     record {
       work =
-          changed-work (case_in c.args.problem.now) c.args.letters.now c.args.before.now c.path_field-field.result (c.ends_changed.ensures.some c.if-not-ends_changed.false) c.requires.fit
+          changed-work (case_in c.args.problem.now) c.args.letters.now c.args.before.now c.path_field-field.result
+          (c.ends_changed.ensures.some c.if-not-ends_changed.false) c.requires.fit
           (sym c.ends_changed.ensures.changed ∙ c.if-not-ends_changed.false) c.requires.made c.path_field-field.ensures.field
           ∙ ap (λ (n : ℕ). 1 + n) (sym c.pairs.ensures.exact);
     }

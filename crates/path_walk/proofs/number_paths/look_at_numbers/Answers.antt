@@ -6,4 +6,6 @@ use Rattle.linear_elim.proofs.ShapeLaws.{OneShape-have}
 use Rattle.path_walk.proofs.number_paths.look_at_numbers.Goals as goal
 
 pub last_pairs-pairs-requires-clause-shape : goal.last_pairs-pairs-requires-clause-shape
-last_pairs-pairs-requires-clause-shape g c = OneShape-have c.system.result.now.edits.shape c.lines.result.now (subst (λ (ls : List Derived). HaveShape c.system.result.now.edits.shape (lines_of ls)) (sym c.lines.ensures.lines) c.lines.ensures.over)
+last_pairs-pairs-requires-clause-shape g c =
+    OneShape-have c.system.result.now.edits.shape c.lines.result.now
+    (subst (λ (ls : List Derived). HaveShape c.system.result.now.edits.shape (lines_of ls)) (sym c.lines.ensures.lines) c.lines.ensures.over)

@@ -16,4 +16,5 @@ pub returns-then-not-ends_changed-clause-system : goal.returns-then-not-ends_cha
 returns-then-not-ends_changed-clause-system g c =
     let case = case_in c.args.problem.now in
     let same = kept-numbers case c.args.letters.now c.requires.fit (sym c.ends_changed.ensures.changed ∙ c.if-not-ends_changed.true) in
-    subst (λ (h : Held). IsPathSystem case c.args.letters.now h) (sym c.in_ok-share.ensures) (kept-system case c.args.letters.now (arc_value c.args.before.now) same c.requires.system)
+    subst (λ (h : Held). IsPathSystem case c.args.letters.now h) (sym c.in_ok-share.ensures)
+    (kept-system case c.args.letters.now (arc_value c.args.before.now) same c.requires.system)

@@ -7,11 +7,15 @@ use Rattle.path_walk.proofs.number_paths.tried.Goals as goal
 pub boxes_of-requires-clause-shape : goal.boxes_of-requires-clause-shape
 boxes_of-requires-clause-shape c =
     all-over (case_in c.args.problem.now) c.requires.problem.case c.args.path.now c.requires.held c.lines-lines.result.now
-    (lines-made (case_in c.args.problem.now) c.args.path.now c.args.system.value c.deref.result.now c.system.result.now c.lines-lines.result.now c.requires.system c.deref.ensures c.system.ensures c.lines-lines.ensures.lines)
+    (lines-made (case_in c.args.problem.now) c.args.path.now c.args.system.value c.deref.result.now c.system.result.now c.lines-lines.result.now
+    c.requires.system c.deref.ensures c.system.ensures c.lines-lines.ensures.lines)
 
 pub returns-in-Ok-clause-basis : goal.returns-in-Ok-clause-basis
 returns-in-Ok-clause-basis c = λ is_open.
-    let made = lines-made (case_in c.args.problem.now) c.args.path.now c.args.system.value c.deref.result.now c.system.result.now c.lines-lines.result.now c.requires.system c.deref.ensures c.system.ensures c.lines-lines.ensures.lines in (
-      subst (λ (n : ℕ). n ≤ length c.args.path.now) c.number_count.ensures.count (subst (λ (p : List Bool). c.number_count.result ≤ length p) c.letters.ensures c.if-letters-number_count.false),
-      c.in_ok-new-in-Ok.ensures.ok ∙ c.from_vec.ensures ∙ numbers-boxes (case_in c.args.problem.now) c.args.path.now c.lines-lines.result.now c.in-Ok.boxes.items c.requires.fit made c.in-Ok.ensures.exact,
+    let made = lines-made (case_in c.args.problem.now) c.args.path.now c.args.system.value c.deref.result.now c.system.result.now c.lines-lines.result.now
+    c.requires.system c.deref.ensures c.system.ensures c.lines-lines.ensures.lines in (
+      subst (λ (n : ℕ). n ≤ length c.args.path.now) c.number_count.ensures.count
+          (subst (λ (p : List Bool). c.number_count.result ≤ length p) c.letters.ensures c.if-letters-number_count.false),
+      c.in_ok-new-in-Ok.ensures.ok ∙ c.from_vec.ensures ∙ numbers-boxes (case_in c.args.problem.now) c.args.path.now c.lines-lines.result.now
+          c.in-Ok.boxes.items c.requires.fit made c.in-Ok.ensures.exact,
     )

@@ -5,4 +5,6 @@ use Rattle.bound_cert.specs.Paths.{changes}
 use Rattle.path_walk.proofs.problem.changed_numbers.Given as goal
 
 abbrev pub invariant-loop-place : goal.invariant-loop-place
-invariant-loop-place l = (f : ℕ) → has_number l.set f ≡ (has_field (take l.place (number_fields (shape_of l.problem.survey.now.fields))) f && changes l.problem.survey.now.fields l.letters f)
+invariant-loop-place l =
+    (f : ℕ) → has_number l.set f ≡ (has_field (take l.place (number_fields (shape_of l.problem.survey.now.fields))) f && changes
+    l.problem.survey.now.fields l.letters f)

@@ -8,4 +8,5 @@ pub returns-clause-count : goal.returns-clause-count
 returns-clause-count c = numbers-counted (case_in c.args.problem.now) c.numbers.result.now c.numbers.ensures
 
 pub returns-clause-fit : goal.returns-clause-fit
-returns-clause-fit c = omega (arith, numbers-counted (case_in c.args.problem.now) c.numbers.result.now c.numbers.ensures, count-kinds (case_in c.args.problem.now))
+returns-clause-fit c =
+    omega (arith, numbers-counted (case_in c.args.problem.now) c.numbers.result.now c.numbers.ensures, count-kinds (case_in c.args.problem.now))

@@ -20,7 +20,8 @@ pub returns-clause-fields : goal.returns-clause-fields
 returns-clause-fields g c = subst (λ (set : ℕ). IfOk c.extend.result (λ system. system.fields ≡ set)) (whole g c) c.extend.ensures.fields
 
 pub returns-clause-exact : goal.returns-clause-exact
-returns-clause-exact g c = subst (λ (set : ℕ). Answers (λ system. system.lines) told_system c.extend.result (system_at c.args.others.now.edits set)) (whole g c) c.extend.ensures.exact
+returns-clause-exact g c = subst (λ (set : ℕ). Answers (λ system. system.lines) told_system c.extend.result (system_at c.args.others.now.edits set)) (whole g c)
+    c.extend.ensures.exact
 
 pub returns-clause-few : goal.returns-clause-few
 returns-clause-few g c =

@@ -7,7 +7,8 @@ use Rattle.back_subst.specs.declared.bound.Bound.{Bound}
 use Rattle.back_subst.proofs.bound.Bound.further_in.Goals as goal
 
 pub returns-in-Some : goal.returns-in-Some
-returns-in-Some c = c.middle.ensures.formula ∙ ap (λ (o : Option Bound). step_in (side_of c.args.lower) (ratio_of c.args.self.at) (found_any o)) (sym c.in-Some.is)
+returns-in-Some c =
+    c.middle.ensures.formula ∙ ap (λ (o : Option Bound). step_in (side_of c.args.lower) (ratio_of c.args.self.at) (found_any o)) (sym c.in-Some.is)
 
 pub returns-in-None : goal.returns-in-None
 returns-in-None c =

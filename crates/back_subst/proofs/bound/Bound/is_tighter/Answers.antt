@@ -18,4 +18,5 @@ returns-else-self c =
     ∙ tighter-equal c.args.self c.args.other c.args.lower (compared c.args.self.at c.args.other.at Equal (sym c.in-Equal.is ∙ c.compare.ensures))
 
 pub returns-in-Greater : goal.returns-in-Greater
-returns-in-Greater c = tighter-greater c.args.self c.args.other c.args.lower (compared c.args.self.at c.args.other.at Greater (sym c.in-Greater.is ∙ c.compare.ensures))
+returns-in-Greater c =
+    tighter-greater c.args.self c.args.other c.args.lower (compared c.args.self.at c.args.other.at Greater (sym c.in-Greater.is ∙ c.compare.ensures))

@@ -14,6 +14,7 @@ invariant_of-self-in-Ok c = λ element.
     c.in-Ok.ensures.updates.0 element
     ∙ ap (λ n. cond (is_eq (element_cmp c.args.element element)) (Some n) (get element_cmp c.self.inside.numbers element)) number
     ∙ number-more c.self.inside.written.items (record { element = c.args.element; step = c.args.step }) element (get element_cmp c.self.inside.numbers element)
-    (number-none c.self.inside.written.items c.args.element (ap (λ (ws : List Written). list_any (λ (w : Written). is_element w.element c.args.element) ws) c.self.view_is ∙ c.requires))
+    (number-none c.self.inside.written.items c.args.element (ap (λ (ws : List Written). list_any (λ (w : Written). is_element w.element c.args.element) ws)
+    c.self.view_is ∙ c.requires))
     (c.self.invariant element)
     ∙ ap (λ (ws : List Written). number_of ws element) (sym c.in_ok-push.ensures.items)

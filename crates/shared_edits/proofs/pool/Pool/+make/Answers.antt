@@ -25,8 +25,10 @@ returns-in-Some-known-clause-onwards g t c = λ first firsts knows.
     let fields = c.args.fields in
     let last = c.in-Some.last in
     let same = ap (λ (s : SystemParts). s.edits) c.deref-in-Some-known.ensures ∙ c.in-Some-known.ensures.edits in
-    let few = subst (λ (e : EditsParts). c.with_last.new.steps + pairs_at e (without_number fields last) ≤ c.args.steps.now + pairs_at e fields) same c.with_last.ensures.few in
-    let others = first-others pool.edits fields last c.requires.numerical c.in-Some.ensures.some pool (map walked_of c.args.entries.now) first firsts knows c.requires.unknown in
+    let few = subst (λ (e : EditsParts). c.with_last.new.steps + pairs_at e (without_number fields last) ≤ c.args.steps.now + pairs_at e fields) same
+    c.with_last.ensures.few in
+    let others = first-others pool.edits fields last c.requires.numerical c.in-Some.ensures.some pool (map walked_of c.args.entries.now) first firsts knows
+    c.requires.unknown in
     let part = pairs-others pool.edits fields last c.requires.numerical c.in-Some.ensures.some first others in
     omega (arith, few, part)
 
@@ -47,8 +49,10 @@ returns-in-Ok-clause-onwards g t c = λ first firsts knows.
     let fields = c.args.fields in
     let last = c.in-Some.last in
     let set = c.without-others.ensures.set in
-    let few = subst (λ (e : EditsParts). c.with_last-in-Ok.new.steps + pairs_at e (without_number fields last) ≤ c.make.new.steps + pairs_at e fields) c.in-Ok.ensures.edits c.with_last-in-Ok.ensures.few in
-    let others = first-others pool.edits fields last c.requires.numerical c.in-Some.ensures.some pool (map walked_of c.args.entries.now) first firsts knows c.requires.unknown in
+    let few = subst (λ (e : EditsParts). c.with_last-in-Ok.new.steps + pairs_at e (without_number fields last) ≤ c.make.new.steps + pairs_at e fields)
+    c.in-Ok.ensures.edits c.with_last-in-Ok.ensures.few in
+    let others = first-others pool.edits fields last c.requires.numerical c.in-Some.ensures.some pool (map walked_of c.args.entries.now) first firsts knows
+    c.requires.unknown in
     let made = c.in-Ok.ensures.onwards first (subst (λ (s : ℕ). IsFirstOf first s) (sym set) others) knows in
     let same = ap (λ (s : ℕ). pairs_at pool.edits s) set in
     omega (arith, few, made, same)
@@ -57,7 +61,8 @@ pub returns-in-Err-clause-exact : goal.returns-in-Err-clause-exact
 returns-in-Err-clause-exact g t c =
     let edits = c.args.self.now.edits in
     let exact = subst (λ (s : ℕ). IfSome (told_system c.in-Err.fault) (λ f. system_at edits s ≡ Err f)) c.without-others.ensures.set c.in-Err.ensures.exact in
-    IfSome_then (told_system c.in-Err.fault) exact (λ f stops. fault-with edits c.args.fields c.in-Some.last c.requires.numerical c.in-Some.ensures.some f stops)
+    IfSome_then (told_system c.in-Err.fault) exact (λ f stops. fault-with edits c.args.fields c.in-Some.last c.requires.numerical c.in-Some.ensures.some f
+    stops)
 
 pub returns-in-Err-clause-few : goal.returns-in-Err-clause-few
 returns-in-Err-clause-few g t c =
@@ -72,7 +77,8 @@ returns-in-Err-clause-onwards g t c = λ first firsts knows.
     let fields = c.args.fields in
     let last = c.in-Some.last in
     let set = c.without-others.ensures.set in
-    let others = first-others pool.edits fields last c.requires.numerical c.in-Some.ensures.some pool (map walked_of c.args.entries.now) first firsts knows c.requires.unknown in
+    let others = first-others pool.edits fields last c.requires.numerical c.in-Some.ensures.some pool (map walked_of c.args.entries.now) first firsts knows
+    c.requires.unknown in
     let made = c.in-Err.ensures.onwards first (subst (λ (s : ℕ). IsFirstOf first s) (sym set) others) knows in
     let same = ap (λ (s : ℕ). pairs_at pool.edits s) set in
     let part = pairs-with pool.edits fields last c.requires.numerical c.in-Some.ensures.some in

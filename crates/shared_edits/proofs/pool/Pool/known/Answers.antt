@@ -11,7 +11,8 @@ module _ (c : goal.After-index-as_slice-place) where
   abbrev e : Entry
   e = c.index-as_slice-place.result
 
-  is_found : IsOf c.args.self.now (walked_of e) × Carries c.args.self.now c.args.fields (walked_of e) × Knows c.args.self.now c.args.fields (map walked_of c.args.entries.now)
+  is_found : IsOf c.args.self.now (walked_of e) × Carries c.args.self.now c.args.fields (walked_of e)
+      × Knows c.args.self.now c.args.fields (map walked_of c.args.entries.now)
   is_found =
       let at = subst (λ (es : List Entry). e ≡ get_or es c.in_ok-place.place e) c.as_slice.ensures c.index-as_slice-place.is in
       found c.args.self.now c.args.fields c.args.entries.now c.requires c.in_ok-place.place e (sym c.in_ok-place.ensures) at
@@ -21,7 +22,8 @@ module _ (c : goal.After-system_at) where
   abbrev d : Entry
   d = c.index-as_slice-place.result
 
-  was_found : IsOf c.args.self.now (walked_of d) × Carries c.args.self.now c.args.fields (walked_of d) × Knows c.args.self.now c.args.fields (map walked_of c.args.entries.now)
+  was_found : IsOf c.args.self.now (walked_of d) × Carries c.args.self.now c.args.fields (walked_of d)
+      × Knows c.args.self.now c.args.fields (map walked_of c.args.entries.now)
   was_found =
       let at = subst (λ (es : List Entry). d ≡ get_or es c.in_ok-place.place d) c.as_slice.ensures c.index-as_slice-place.is in
       found c.args.self.now c.args.fields c.args.entries.now c.requires c.in_ok-place.place d (sym c.in_ok-place.ensures) at
@@ -30,7 +32,8 @@ pub system_at-requires : goal.system_at-requires
 system_at-requires c = (is_found c).0.shown
 
 pub returns-in_err-place-clause-none : goal.returns-in_err-place-clause-none
-returns-in_err-place-clause-none c = rw c.from_residual.ensures (unknown c.args.self.now c.args.fields c.args.entries.now c.requires (sym c.in_err-place.ensures))
+returns-in_err-place-clause-none c = rw c.from_residual.ensures (unknown c.args.self.now c.args.fields c.args.entries.now c.requires
+    (sym c.in_err-place.ensures))
 
 pub returns-clause-edits : goal.returns-clause-edits
 returns-clause-edits c = rw c.system_at.ensures (was_found c).1.0

@@ -18,7 +18,8 @@ returns-then-is_full-clause-answer g c =
 -- the system is stored
 module _ (g : given.Over) (c : goal.After-push g) where
   not_full : is_full c.reader.inside.walked (length c.args.system.lines) ≡ false
-  not_full = let tested : is_full c.reader.inside.walked (length c.args.system.lines) ≡ c.is_full.result = rw (sym c.lines.ensures.lines) (sym c.is_full.ensures) in tested ∙ c.if-is_full.false
+  not_full = let tested : is_full c.reader.inside.walked (length c.args.system.lines) ≡ c.is_full.result =
+      rw (sym c.lines.ensures.lines) (sym c.is_full.ensures) in tested ∙ c.if-is_full.false
 
   stored : arc_value c.own_entry.result.token.value ≡ c.args.system
   stored = ap (λ t. arc_value t.value) c.own_entry.ensures.0 ∙ ap arc_value c.in-Ok-push_shown.ensures.0.1 ∙ c.in_ok-shared.ensures.shared
@@ -43,7 +44,8 @@ invariant_of-reader g c =
 pub returns-in-Ok-push_shown-clause-reader : goal.returns-in-Ok-push_shown-clause-reader
 returns-in-Ok-push_shown-clause-reader g c =
     let pool = c.args.self.now in
-    pushed-of c.reader.inside.walked c.push.new.self c.own_entry.result c.push.ensures pool (subst (IsReaderOf pool) (sym c.reader.view_is) c.requires.reader) (is_of g c)
+    pushed-of c.reader.inside.walked c.push.new.self c.own_entry.result c.push.ensures pool (subst (IsReaderOf pool) (sym c.reader.view_is) c.requires.reader)
+    (is_of g c)
 
 pub returns-in-Ok-push_shown-clause-answer : goal.returns-in-Ok-push_shown-clause-answer
 returns-in-Ok-push_shown-clause-answer g c =
@@ -51,6 +53,11 @@ returns-in-Ok-push_shown-clause-answer g c =
     let e = c.own_entry.result in
     let count = length c.args.system.lines in (
       subst (λ (l : List Walked). ¬ IsFull count l) c.reader.view_is (not-full-is es count (not_full g c)),
-      (walked_of e, pushed-is es c.push.new.self e c.push.ensures ∙ ap (λ (l : List Walked). l ++ walked_of e ∷ []) c.reader.view_is, c.own_entry.ensures.1, stored g c),
+      (
+        walked_of e,
+        pushed-is es c.push.new.self e c.push.ensures ∙ ap (λ (l : List Walked). l ++ walked_of e ∷ []) c.reader.view_is,
+        c.own_entry.ensures.1,
+        stored g c,
+      ),
       c.in-Ok.ensures ∙ c.in_ok-shared.ensures.shared,
     )

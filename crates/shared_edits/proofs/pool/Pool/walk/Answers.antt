@@ -1,6 +1,6 @@
 use Rattle.std.proofs.Common.{List, arith, map, subst, sym}
 use Rattle.shared_edits.specs.Pools.{IsReaderOf, Walked}
-use Rattle.shared_edits.specs.Walks.{WalksOn}
+use Rattle.shared_edits.specs.Walks.{HasWalkedOn}
 use Rattle.shared_edits.specs.inner.Entries.{walked_of}
 use Rattle.shared_edits.proofs.WalkLaws.{turn_length, walk_turn, walks_nothing}
 use Rattle.shared_edits.proofs.pool.Pool.walk.Goals as goal
@@ -9,7 +9,7 @@ pub loop-reader-init : goal.loop-reader-init
 loop-reader-init c =
     let is = c.reader.view_is in
     let inv = c.reader.invariant in (
-      subst (λ (l : List Walked). WalksOn l (map walked_of c.reader.inside.walked)) is (walks_nothing (map walked_of c.reader.inside.walked)),
+      subst (λ (l : List Walked). HasWalkedOn l (map walked_of c.reader.inside.walked)) is (walks_nothing (map walked_of c.reader.inside.walked)),
       subst (IsReaderOf c.args.self.now) (sym is) c.requires,
       inv.0,
       inv.1,

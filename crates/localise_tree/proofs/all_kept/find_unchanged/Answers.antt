@@ -1,0 +1,23 @@
+use Rattle.std.proofs.Common.{◌≡◌, ◌<◌, rules, List, true, length, ap, ◌∙◌}
+use Rattle.std.specs.Arc.{arc_value}
+use Rattle.edit_model.specs.declared.field.Field.{Field}
+use Rattle.edit_paths.specs.Cases.{case_of}
+use Rattle.localise_tree.specs.inner.AllKept.{all_kept, holds_throughout}
+use Rattle.localise_tree.proofs.HoldingLaws.{kept-open}
+use Rattle.localise_tree.proofs.KeptWalk.{keeps-start, kept-outcome}
+use Rattle.localise_tree.proofs.all_kept.find_unchanged.Goals as goal
+
+pub returns-clause-exact : goal.returns-clause-exact
+returns-clause-exact g c =
+    let enough : length c.args.task.now.survey.now.fields < c.args.task.now.budget = search rules in
+    let holds : holds_throughout (case_of c.args.task.now.survey.now (arc_value c.args.task.now.edits.now) c.args.task.now.row.now) ≡ true = search rules in
+    c.in_ok-all_kept.ensures ∙ ap (λ (fs : List Field). all_kept (length fs)) c.fields-2.ensures.fields
+    ∙ kept-outcome (case_of c.args.task.now.survey.now (arc_value c.args.task.now.edits.now) c.args.task.now.row.now) c.args.task.now.budget enough
+    (kept-open (case_of c.args.task.now.survey.now (arc_value c.args.task.now.edits.now) c.args.task.now.row.now) c.case_known.ensures.case holds)
+
+pub returns-clause-kept : goal.returns-clause-kept
+returns-clause-kept g c =
+    keeps-start (g.S.Systems.keeps c.ask_for_start.new.source)
+    (case_of c.args.task.now.survey.now (arc_value c.args.task.now.edits.now) c.args.task.now.row.now) (length c.fields-2.result.now)
+    c.in_ok-all_kept.field-0
+    c.in_ok-all_kept.ensures c.in_ok-ask_for_start.ensures.kept
