@@ -36,15 +36,18 @@ bucket_low scale x some plain = of_parts x.numerator x.denominator x.positive pl
         omega (arith, q, times_few a few)
 
 -- so numbers from 0 on are as far apart as the buckets that they count
-apart_same : (a b : ℤ) → unsigned_abs a ≤ 10 ^ 24 → unsigned_abs b ≤ 10 ^ 24 → abs_diff (unsigned_abs (a +ℤ pos (10 ^ 24))) (unsigned_abs (b +ℤ pos (10 ^ 24))) ≡ unsigned_abs (a -ℤ b)
+apart_same : (a b : ℤ) → unsigned_abs a ≤ 10 ^ 24 → unsigned_abs b ≤ 10 ^ 24 → abs_diff (unsigned_abs (a +ℤ pos (10 ^ 24))) (unsigned_abs (b +ℤ pos (10 ^ 24)))
+    ≡ unsigned_abs (a -ℤ b)
 apart_same a b low also = omega (arith, ints, low, also)
 
 -- the bucket gap of two numbers by their buckets, counted from 0 on
-pub gap_by_buckets : (yardstick : Yardstick) (scale : ℕ) (v w : Value) → yardstick.scale ≡ Some scale → 1 ≤ scale → IsMeasurable (Some scale) v → IsMeasurable (Some scale) w
+pub gap_by_buckets : (yardstick : Yardstick) (scale : ℕ) (v w : Value) → yardstick.scale ≡ Some scale → 1 ≤ scale → IsMeasurable (Some scale) v
+    → IsMeasurable (Some scale) w
     → bucket_gap yardstick v w ≡ yardstick.weight * min 1000 (abs_diff (bucket_no scale v) (bucket_no scale w) - 1)
 gap_by_buckets yardstick scale (Number x) (Number y) is some first second =
     ap (λ (o : Option ℕ). yardstick.weight * buckets_between o (Number x) (Number y)) is
-    ∙ ap (λ n. yardstick.weight * min 1000 (n - 1)) (sym (apart_same (bucket_of scale x) (bucket_of scale y) (bucket_low scale x some first) (bucket_low scale y some second)))
+    ∙ ap (λ n. yardstick.weight * min 1000 (n - 1))
+    (sym (apart_same (bucket_of scale x) (bucket_of scale y) (bucket_low scale x some first) (bucket_low scale y some second)))
 gap_by_buckets yardstick scale (Code c) w is some first second = absurd first
 gap_by_buckets yardstick scale Bad w is some first second = absurd first
 gap_by_buckets yardstick scale (Number x) (Code c) is some first second = absurd second

@@ -1,4 +1,6 @@
-//! Where numbers lie, in buckets: what tells that two records are far apart before they are measured.
+//! Where numbers lie, in buckets: what tells that two records are far apart before they are measured. A
+//! plain number is one as records have them: its numerator is below 10^21, and its denominator at most
+//! 10^6.
 ghost use Rattle.std.specs.Prelude.{◌≡◌, ℕ, ◌+◌, ◌-◌, ◌*◌, ◌<◌, ◌≤◌, ◌^◌, ◌+ℤ◌, ◌*ℤ◌, ◌<ℤ◌, min, pos, unsigned_abs, true};
 ghost use Rattle.std.specs.Int.{abs_diff, int_div_euclid};
 ghost use Rattle.edit_model.specs.PlainNumbers.{IsPlain, IsPlainValue};
@@ -9,17 +11,20 @@ ghost use Rattle.donor_measure.specs.Yardsticks.{IsScale};
 use edit_model::Value;
 use fraction128::Fraction;
 
-// No bucket of a plain number is further from 0.
+// No bucket of a plain number is further from 0: it is 1000 times a numerator below 10^21, over a
+// denominator and a scale of at least 1.
 const LOWEST_BUCKET: i128 = 1_000_000_000_000_000_000_000_000;
 
 // Where folded numbers begin to be repeated: 2^17.
 const PERIOD: u128 = 131_072;
 
-// What is added to buckets before they are folded: 2^15, so that those nearest to 0 lie in the middle of the way up.
+// What is added to buckets before they are folded: 2^15, so that those nearest to 0 lie in the middle of
+// the way up. Without it buckets as far below 0 as others are above it would have their marks.
 const MIDDLE: u128 = 32_768;
 
-/// The bucket of a number, how many thousandths of the scale it is, rounded down and counted from -10^24 on: the lowest that
-/// a number with a numerator below 10^21 has. 0 where the value is no such number. No memory.
+/// The bucket of a number: how many thousandths of the scale it is, rounded down. It is counted from -10^24
+/// on, the lowest bucket that a number with a numerator below 10^21 has. 0 where the value is no number, or
+/// its parts are not as small as those of records. No memory.
 pub fn bucket_no(scale: u64, value: &Value) -> u128
     requires { (1 ≤ scale) × (scale ≤ 10 ^ 12) }
     ensures is { IsPlainValue value.now → result ≡ bucket_no scale value.now }
@@ -31,7 +36,7 @@ pub fn bucket_no(scale: u64, value: &Value) -> u128
     }
 }
 
-// The bucket of a number, 0 where its parts are not as small as those of records.
+// The bucket of a number, counted from the lowest; 0 where the number is not plain.
 fn number_bucket(scale: u64, x: &Fraction) -> u128
     requires { (1 ≤ scale) × (scale ≤ 10 ^ 12) }
     ensures is { IsPlain x.now → result ≡ number_bucket scale x.now }
@@ -44,7 +49,7 @@ fn number_bucket(scale: u64, x: &Fraction) -> u128
     }
 }
 
-// Whether the parts of a number are as small as those of records.
+// Whether a number is plain: its parts are as small as those of records.
 fn is_plain(x: &Fraction) -> bool
     ensures yes { result ≡ true → IsPlain x.now }
     ensures all { IsPlain x.now → result ≡ true }
@@ -63,17 +68,17 @@ fn plain_bucket(scale: u64, x: &Fraction) -> u128
     counted(bucket_of(scale, x))
 }
 
-// The bucket of a plain number.
+// The bucket of a plain number: how many thousandths of the scale it is, rounded down.
 fn bucket_of(scale: u64, x: &Fraction) -> i128
     requires scale { (1 ≤ scale) × (scale ≤ 10 ^ 12) }
     requires plain { IsPlain x.now }
     ensures bucket { result ≡ bucket_of scale x.now }
     ensures few { unsigned_abs result ≤ 10 ^ 24 }
 {
-    rounded_down(thousands(x), unit(scale, x))
+    floor_quotient(thousands(x), unit(scale, x))
 }
 
-// A thousand times the numerator.
+// A thousand times the numerator: what a bucket is a quotient of.
 fn thousands(x: &Fraction) -> i128
     requires { IsPlain x.now }
     ensures product { result ≡ pos 1000 *ℤ x.now.numerator }
@@ -82,7 +87,7 @@ fn thousands(x: &Fraction) -> i128
     1000 * x.numerator()
 }
 
-// The denominator times the scale.
+// The denominator times the scale: what a bucket is a quotient by.
 fn unit(scale: u64, x: &Fraction) -> i128
     requires scale { (1 ≤ scale) × (scale ≤ 10 ^ 12) }
     requires plain { IsPlain x.now }
@@ -91,8 +96,8 @@ fn unit(scale: u64, x: &Fraction) -> i128
     x.denominator() * i128::from(scale)
 }
 
-// A quotient, rounded down.
-fn rounded_down(size: i128, unit: i128) -> i128
+// The quotient of `size` by `unit`, rounded down also where `size` is below 0.
+fn floor_quotient(size: i128, unit: i128) -> i128
     requires few { unsigned_abs size ≤ 10 ^ 24 }
     requires some { pos 0 <ℤ unit }
     ensures quotient { result ≡ int_div_euclid size unit }
@@ -101,7 +106,7 @@ fn rounded_down(size: i128, unit: i128) -> i128
     size.div_euclid(unit)
 }
 
-// A bucket, counted from the lowest.
+// A bucket, counted from the lowest, so that it is at least 0.
 fn counted(bucket: i128) -> u128
     requires { unsigned_abs bucket ≤ 10 ^ 24 }
     ensures is { result ≡ unsigned_abs (bucket +ℤ pos (10 ^ 24)) }
@@ -110,8 +115,10 @@ fn counted(bucket: i128) -> u128
     (bucket + LOWEST_BUCKET).unsigned_abs()
 }
 
-/// A value's mark: where two values have marks of which the difference is d, they are at least d - 1 apart, or 1000. It is the
-/// bucket of a number, or 1001 times a code, folded into 16 bits. No memory.
+/// A value's mark, by which values that are far apart are told without their distance. Where the marks of
+/// two values of a field differ by d, the values are at least d - 1 thousandths apart, or 1000. The mark of
+/// a number is its bucket, folded into 16 bits. That of a code is 1001 times its number, since two codes
+/// are 1000 apart. A missing value counts as the bucket, or code, 0. No memory.
 pub fn mark_of(scale: Option<u64>, value: &Value) -> u16
     requires { IsScale scale }
     ensures { IsPlainValue value.now → result ≡ mark_of scale value.now }
@@ -122,7 +129,8 @@ pub fn mark_of(scale: Option<u64>, value: &Value) -> u16
     }
 }
 
-// A number folded into 16 bits.
+// A number folded into 16 bits. As numbers rise, it runs up from 0 to 2^16 - 1, then down again, and so on.
+// So two of them never differ more than the numbers do.
 fn folded(number: u128) -> u16
     ensures { result ≡ folded number }
 {
@@ -130,7 +138,8 @@ fn folded(number: u128) -> u16
     up.min(PERIOD - 1 - up) as u16
 }
 
-/// The whole buckets that lie between two buckets, at most 1000. No memory.
+/// The number of whole buckets between two buckets, at most 1000. The distance of two numbers is at least
+/// that, times the weight of their field. No memory.
 #[inline(always)]
 pub fn apart_by_buckets(first: u128, second: u128) -> u64
     ensures { result ≡ min 1000 (abs_diff first second - 1) }
@@ -143,7 +152,8 @@ pub fn apart_by_buckets(first: u128, second: u128) -> u64
     }
 }
 
-// The whole buckets below one that is so many further.
+// The number of whole buckets between one and another that is `apart` buckets further; 0 where both are the
+// same.
 #[inline(always)]
 fn between(apart: u64) -> u64
     requires { apart ≤ 1000 }

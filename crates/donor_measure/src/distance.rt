@@ -1,3 +1,7 @@
+//! How far two values of one field are apart, exactly, by the field's weight and scale. The distance of
+//! two records is a sum of these. In contracts, `IsMeasurable` asks for a code where there is no scale,
+//! and for a plain number where there is one. `bucket_gap` is the weight times the whole buckets between
+//! two values.
 ghost use Rattle.std.specs.Prelude.{◌≡◌, ℕ, IfSome, ◌<◌, ◌≤◌, ◌*◌, ◌-ℤ◌, ◌*ℤ◌, ◌^◌, ◌==◌, ◌/◌, if◌then◌else◌, pos, true, unsigned_abs, min, length};
 ghost use Rattle.edit_model.specs.PlainNumbers.{IsPlain};
 ghost use Rattle.donor_measure.specs.Distances.{bucket_gap, field_distance, thousandths_apart, value_distance};
@@ -8,13 +12,14 @@ use crate::yardstick::{Yardstick, Yardsticks};
 use edit_model::{Survey, Value};
 use fraction128::Fraction;
 
-// The greatest unit that thousandths are counted of in words of 64 bits.
+// The greatest unit with which thousandths are counted in words of 64 bits: 1000 times a size below it fits
+// in one.
 const MOST_IN_WORDS: u128 = 10_000_000_000_000_000;
 
-/// The distance of two values of a field of the survey: the field's weight times 0 for equal codes and
-/// 1000 for other ones, and for numbers times the thousandths of the field's scale by which they differ,
-/// rounded down and at most 1000. The numbers have numerators below 10^21 and denominators of at most
-/// 10^6. It is what a [`crate::Measure`] of the survey has to keep. No memory.
+/// The distance of two values of a field of the survey: the field's weight times how far they are apart.
+/// Equal codes are 0 apart, and other codes 1000. Numbers are apart by the thousandths of the field's scale
+/// by which they differ, rounded down and at most 1000. The numbers have numerators below 10^21 and
+/// denominators of at most 10^6. It is what a [`crate::Measure`] of the survey has to keep. No memory.
 pub fn field_distance(survey: &Survey, field: u32, first: &Value, second: &Value) -> u64
     requires field { field < length survey.now.fields }
     requires first { IsMeasurable (yardstick_at (yardsticks_of survey.now.fields) field).scale first.now }
@@ -26,8 +31,8 @@ pub fn field_distance(survey: &Survey, field: u32, first: &Value, second: &Value
 }
 
 impl Yardsticks {
-    /// The distance of two values of a field of the survey that these yardsticks are of, as [`field_distance`] has it. No
-    /// memory.
+    /// The distance of two values of a field of the survey that these yardsticks are of, as
+    /// [`field_distance`] has it. No memory.
     pub fn distance(&self, field: u32, first: &Value, second: &Value) -> u64
         requires field { field < length self.now }
         requires first { IsMeasurable (yardstick_at self.now field).scale first.now }
@@ -39,7 +44,7 @@ impl Yardsticks {
     }
 }
 
-// The yardstick of the field.
+// The yardstick of the survey's field: its weight, and its scale where it is numerical.
 #[inline(always)]
 fn yardstick(survey: &Survey, field: u32) -> Yardstick
     requires { field < length survey.now.fields }
@@ -49,7 +54,7 @@ fn yardstick(survey: &Survey, field: u32) -> Yardstick
     Yardstick::of(&survey.fields()[field as usize])
 }
 
-// The distance of two values of a field that has this yardstick.
+// The distance of two values of a field that has this yardstick: its weight times theirs.
 #[inline(always)]
 fn distance_by(yardstick: Yardstick, first: &Value, second: &Value) -> u64
     requires fits { IsYardstick yardstick }
@@ -61,7 +66,8 @@ fn distance_by(yardstick: Yardstick, first: &Value, second: &Value) -> u64
     u64::from(yardstick.weight) * value_distance(yardstick.scale, first, second)
 }
 
-// The distance of two values, without the weight of their field.
+// The distance of two values, without the weight of their field. Other pairs do not come: a field's values
+// are codes where it has no scale, and else numbers.
 #[inline(always)]
 fn value_distance(scale: Option<u64>, first: &Value, second: &Value) -> u64
     requires scale { IsScale scale }
@@ -111,7 +117,8 @@ fn are_whole(x: &Fraction, y: &Fraction) -> bool
     x.denominator() == 1 && y.denominator() == 1
 }
 
-// The thousandths of the scale that a whole difference is, rounded down and at most 1000.
+// How many thousandths of the scale `apart` is, the difference of two whole numbers: rounded down and at
+// most 1000.
 #[inline(always)]
 fn whole_distance(scale: u64, apart: u128) -> u64
     requires scale { (1 ≤ scale) × (scale ≤ 10 ^ 12) }
@@ -125,7 +132,8 @@ fn whole_distance(scale: u64, apart: u128) -> u64
     }
 }
 
-// The distance of two numbers, of which one may have a denominator.
+// How far two numbers are apart, of which one may be no whole number: in thousandths of the scale, rounded
+// down and at most 1000.
 #[inline(never)]
 fn fraction_distance(scale: u64, x: &Fraction, y: &Fraction) -> u64
     requires scale { (1 ≤ scale) × (scale ≤ 10 ^ 12) }
@@ -139,7 +147,7 @@ fn fraction_distance(scale: u64, x: &Fraction, y: &Fraction) -> u64
 }
 
 // How many thousandths of the unit a size is, rounded down and at most 1000. Most sizes are at least the
-// unit: then nothing is divided, which would take most of the time.
+// unit. Then nothing is divided, which would take most of the time.
 fn thousandths(size: u128, unit: u128) -> u64
     requires some { 1 ≤ unit }
     requires few { size < 2 * 10 ^ 27 }
@@ -155,8 +163,8 @@ fn thousandths(size: u128, unit: u128) -> u64
     }
 }
 
-// How many thousandths of the unit a size below it is, rounded down, in words of 64 bits, of which a quotient takes a small part
-// of the time.
+// How many thousandths of the unit a size below it is, rounded down. In words of 64 bits, in which 1000
+// times the size fits, a quotient takes a small part of its time in 128.
 #[inline(always)]
 fn thousandths_in_words(size: u64, unit: u64) -> u64
     requires below { size < unit }
@@ -167,7 +175,7 @@ fn thousandths_in_words(size: u64, unit: u64) -> u64
     1000 * size / unit
 }
 
-// The difference of two numbers, over the product of their denominators.
+// How far two numbers are apart, times the product of their denominators, which makes it whole.
 fn apart(x: &Fraction, y: &Fraction) -> u128
     requires first { IsPlain x.now }
     requires second { IsPlain y.now }
@@ -177,7 +185,7 @@ fn apart(x: &Fraction, y: &Fraction) -> u128
     cross(x, y).abs_diff(cross(y, x))
 }
 
-// The numerator of a number times the denominator of the other.
+// The numerator of `x` times the denominator of `y`.
 fn cross(x: &Fraction, y: &Fraction) -> i128
     requires first { IsPlain x.now }
     requires second { IsPlain y.now }

@@ -1,3 +1,6 @@
+//! The distance of two records: what is nearest when a donor is looked for. The caller chooses the closure
+//! by which two values are measured. In contracts, `HasMeasurable` says that a record has a code or a
+//! plain number at each kept field.
 ghost use Rattle.std.specs.Prelude.{◌≡◌, ◌<◌, ◌≤◌, ◌+◌, ◌*◌, All, IfNone, IfSome, length};
 ghost use Rattle.donor_measure.specs.Distances.{distance, distance_at};
 ghost use Rattle.donor_measure.specs.Measures.{HasMeasurable, Measures};
@@ -18,10 +21,10 @@ pub struct Measure<F> {
 }
 
 impl<F: Fn(u32, &Value, &Value) -> u64> Measure<F> {
-    /// The measure of the survey's fields by this closure. At a field of the survey and two values of
-    /// it that are not Bad, numbers with numerators below 10^21 and denominators of at most 10^6, the
-    /// closure may be called and answers the distance of the values, which is at least their bucket gap.
-    /// No memory.
+    /// The measure of the survey's fields by this closure. It may be called at a field of the survey and
+    /// two values of it that are not Bad. Numbers have numerators below 10^21 and denominators of at most
+    /// 10^6. It answers the distance of the values, which is at least their gap: the weight times the whole
+    /// buckets between them. No memory.
     pub fn new(survey: &Survey, closure: F) -> Measure<F>
         requires { Measures F.Fn closure (yardsticks_of survey.now.fields) }
         ensures measures { Measures F.Fn result.closure result.yardsticks }
@@ -33,8 +36,8 @@ impl<F: Fn(u32, &Value, &Value) -> u64> Measure<F> {
         }
     }
 
-    /// The distance of two records, which have codes or numbers at the kept fields, numbers as above.
-    /// One step is counted. No memory.
+    /// The distance of two records: the sum over the kept fields of the distances of their values. The
+    /// records have codes or numbers there, as small as `new` says. One step is counted. No memory.
     pub fn between<L: Ledger>(&self, a: &Row, b: &Row, kept: FieldSet, steps: &mut Steps<L>) -> u64
         requires measures { Measures F.Fn self.now.closure self.now.yardsticks }
         requires first { HasMeasurable self.now.yardsticks kept a.now }
@@ -46,9 +49,9 @@ impl<F: Fn(u32, &Value, &Value) -> u64> Measure<F> {
         self.sum_within(a, b, kept, u64::MAX)
     }
 
-    /// The distance of two records as above where it is at most `most`, and None exactly where it is more:
-    /// then the fields behind the first at which this shows are not looked at. One step is counted.
-    /// No memory.
+    /// The distance of two records, as `between` has it, where it is at most `most`, and None exactly where
+    /// it is more. The fields behind the first at which it is seen to be more are not looked at. One step
+    /// is counted. No memory.
     pub fn between_within<L: Ledger>(
         &self,
         a: &Row,
@@ -69,8 +72,8 @@ impl<F: Fn(u32, &Value, &Value) -> u64> Measure<F> {
         if sum <= most { Some(sum) } else { None }
     }
 
-    // The distance of two records, or where it is more than `most` that of the first kept fields, as many
-    // as make it more.
+    // The distance of two records. Or where that is more than `most`, the sum over as many of the first
+    // fields as make it more.
     #[inline(never)]
     fn sum_within(&self, a: &Row, b: &Row, kept: FieldSet, most: u64) -> u64
         requires measures { Measures F.Fn self.now.closure self.now.yardsticks }
@@ -89,7 +92,7 @@ impl<F: Fn(u32, &Value, &Value) -> u64> Measure<F> {
         sum
     }
 
-    // The distance at a field, 0 where it is not kept.
+    // The distance of the records at a field, 0 where the field is not kept.
     #[inline(always)]
     fn distance_at(&self, field: u32, a: &Row, b: &Row, kept: FieldSet) -> u64
         requires measures { Measures F.Fn self.now.closure self.now.yardsticks }

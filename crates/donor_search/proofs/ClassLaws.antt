@@ -4,7 +4,7 @@ use Rattle.std.specs.List.Sorted.{IsStrictlyIncreasing}
 use Rattle.std.proofs.lemmas.Bool.{and_parts}
 use Rattle.edit_model.specs.CleanRecords.{is_clean}
 use Rattle.edit_model.specs.Parts.{SurveyParts}
-use Rattle.edit_model.specs.PlainNumbers.{HasPlain}
+use Rattle.edit_model.specs.PlainNumbers.{HasPlainNumbers}
 use Rattle.edit_model.specs.Rows.{IsRow}
 use Rattle.edit_model.specs.declared.value.Value.{Value}
 use Rattle.donor_measure.specs.Yardsticks.{yardsticks_of}
@@ -35,7 +35,7 @@ module _ (survey : SurveyParts) (rows : List (List Value)) where
     class_rise = all-rise (is_donor_of_class survey field code) rows
 
     -- each can be measured at every field
-    pub class_give : AllByRecursion (IsRow survey.fields) rows → AllByRecursion HasPlain rows → (kept : ℕ)
+    pub class_give : AllByRecursion (IsRow survey.fields) rows → AllByRecursion HasPlainNumbers rows → (kept : ℕ)
         → All (IsRankable (yardsticks_of survey.fields) rows kept) (donors_of_class survey rows field code)
     class_give are plain kept = clean_give survey rows are plain kept (donors_of_class survey rows field code) class_clean
 

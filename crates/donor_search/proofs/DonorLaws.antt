@@ -4,7 +4,7 @@ use Rattle.std.proofs.lemmas.List.{length-map}
 use Rattle.std.proofs.lemmas.List.Elements.{All-from_recursion}
 use Rattle.edit_model.specs.FieldSets.{has_number}
 use Rattle.edit_model.specs.Parts.{SurveyParts}
-use Rattle.edit_model.specs.PlainNumbers.{HasPlain, IsPlainValue}
+use Rattle.edit_model.specs.PlainNumbers.{HasPlainNumbers, IsPlainValue}
 use Rattle.edit_model.specs.Rows.{IsOfKind, IsRow, value_of}
 use Rattle.edit_model.specs.declared.field.Field.{Field}
 use Rattle.edit_model.specs.declared.field.Kind.{Kind}
@@ -27,7 +27,7 @@ measurable_here (kind.Number scale) (Code c) is held plain = absurd is
 measurable_here (kind.Code codes) (Number x) is held plain = absurd is
 measurable_here (kind.Code codes) (Code c) is held plain = tt
 
-measurable_at : (fields : List Field) (row : List Value) → IsRow fields row → HasPlain row → (f : ℕ) → f < length fields → value_of row f ≢ Bad
+measurable_at : (fields : List Field) (row : List Value) → IsRow fields row → HasPlainNumbers row → (f : ℕ) → f < length fields → value_of row f ≢ Bad
     → IsMeasurable (yardstick_at (yardsticks_of fields) f).scale (value_of row f)
 measurable_at [] row is plain f below held = absurd (omega (arith, below))
 measurable_at (field ∷ fields) [] is plain f below held = absurd is
@@ -35,19 +35,19 @@ measurable_at (field ∷ fields) (v ∷ row) is plain zero below held = measurab
 measurable_at (field ∷ fields) (v ∷ row) is plain (suc f) below held = measurable_at fields row is.1 plain.1 f (omega (arith, below)) held
 
 -- a record with plain numbers that has a value at each kept field
-pub has_kept : (fields : List Field) (row : List Value) (kept : ℕ) → IsRow fields row → HasPlain row
+pub has_kept : (fields : List Field) (row : List Value) (kept : ℕ) → IsRow fields row → HasPlainNumbers row
     → ((f : ℕ) → f < length fields → has_number kept f ≡ true → value_of row f ≢ Bad) → HasMeasurable (yardsticks_of fields) kept row
 has_kept fields row kept is plain held f below has =
     let within : f < length fields = (let l = length-map fields yardstick_of in omega (arith, l, below)) in
     measurable_at fields row is plain f within (held f within has)
 
-module _ (survey : SurveyParts) (rows : List (List Value)) (are : AllByRecursion (IsRow survey.fields) rows) (plain : AllByRecursion HasPlain rows)
+module _ (survey : SurveyParts) (rows : List (List Value)) (are : AllByRecursion (IsRow survey.fields) rows) (plain : AllByRecursion HasPlainNumbers rows)
     (kept : ℕ) where
   -- a clean row can be measured
   gives : (k : ℕ) → IsCleanRow survey rows k → HasMeasurable (yardsticks_of survey.fields) kept (row_at rows k)
   gives k (below, clean) =
       let is = is_row_at survey.fields rows k are below in
-      has_kept survey.fields (row_at rows k) kept is (All-from_recursion HasPlain rows plain k [] below)
+      has_kept survey.fields (row_at rows k) kept is (All-from_recursion HasPlainNumbers rows plain k [] below)
       (λ f within has. clean-held survey (row_at rows k) clean f (let l = row-length survey.fields (row_at rows k) is in omega (arith, l, within)))
 
   -- and so can all of a list of clean rows

@@ -4,7 +4,7 @@ use Rattle.std.specs.List.{AllByRecursion, flat_map}
 use Rattle.std.proofs.Math.Seq.{drop-cons, take-suc}
 use Rattle.std.proofs.lemmas.List.{take_all}
 use Rattle.std.proofs.lemmas.List.Elements.{All-from_recursion}
-use Rattle.edit_model.specs.PlainNumbers.{HasPlain, IsPlainValue}
+use Rattle.edit_model.specs.PlainNumbers.{HasPlainNumbers, IsPlainValue}
 use Rattle.edit_model.specs.Rows.{value_of}
 use Rattle.edit_model.specs.declared.value.Value.{Value}
 use Rattle.edit_model.specs.declared.value.Value.TheVariants.{Bad}
@@ -30,7 +30,7 @@ mark_here i (suc k) (y ∷ ys) row below = mark_here (suc i) k ys row (omega (ar
     next : suc i + k ≡ i + suc k
     next = omega arith
 
-pub plain_here : (row : List Value) (k : ℕ) → HasPlain row → k < length row → IsPlainValue (value_of row k)
+pub plain_here : (row : List Value) (k : ℕ) → HasPlainNumbers row → k < length row → IsPlainValue (value_of row k)
 plain_here row k plain below = All-from_recursion IsPlainValue row plain k Bad below
 
 -- one mark more of a record
@@ -51,10 +51,10 @@ marks_more ys row k mark olds marks news below long before is put =
 
 -- those of a row of the sheet
 pub row_put : (most : ℕ) (ys given : List Yardstick) (rows : List (List Value)) (k : ℕ) (row : List Value) (marks news : List ℕ) → given ≡ ys
-    → row ≡ row_at rows k → k < length rows → AllByRecursion HasPlain rows
-    → (HasPlain row → news ≡ marks ++ take most (marks_of given row)) → news ≡ marks ++ take most (marks_of ys (row_at rows k))
+    → row ≡ row_at rows k → k < length rows → AllByRecursion HasPlainNumbers rows
+    → (HasPlainNumbers row → news ≡ marks ++ take most (marks_of given row)) → news ≡ marks ++ take most (marks_of ys (row_at rows k))
 row_put most ys given rows k row marks news given_is row_is below plain put =
-    put (subst HasPlain (sym row_is) (All-from_recursion HasPlain rows plain k [] below))
+    put (subst HasPlainNumbers (sym row_is) (All-from_recursion HasPlainNumbers rows plain k [] below))
     ∙ ap (λ (r : List Value). marks ++ take most (marks_of given r)) row_is
     ∙ ap (λ (us : List Yardstick). marks ++ take most (marks_of us (row_at rows k))) given_is
 

@@ -2,7 +2,7 @@ use Rattle.std.specs.Prelude.{◌≡◌, ℕ, ◌<◌, All, true, List, [], leng
 use Rattle.std.specs.List.{AllByRecursion}
 use Rattle.edit_model.specs.CleanRecords.{is_clean}
 use Rattle.edit_model.specs.Parts.{SurveyParts}
-use Rattle.edit_model.specs.PlainNumbers.{HasPlain}
+use Rattle.edit_model.specs.PlainNumbers.{HasPlainNumbers}
 use Rattle.edit_model.specs.declared.value.Value.{Value}
 use Rattle.donor_measure.specs.Measures.{HasMeasurable}
 use Rattle.donor_measure.specs.Yardsticks.{yardsticks_of}
@@ -28,4 +28,4 @@ IsRankable yardsticks rows kept donor = (donor < length rows) × HasMeasurable y
 -- where all numbers are plain, each donor has a code or a plain number at each field, whichever are kept
 abbrev pub CanAllGive : SurveyParts → List (List Value) → List ℕ → Type 0
 CanAllGive survey rows donors =
-    AllByRecursion HasPlain rows → (kept : ℕ) → All (IsRankable (yardsticks_of survey.fields) rows kept) donors
+    AllByRecursion HasPlainNumbers rows → (kept : ℕ) → All (IsRankable (yardsticks_of survey.fields) rows kept) donors

@@ -1,4 +1,5 @@
-//! The field by whose buckets donors are walked over.
+//! The index field of a record: the first kept numerical field, by whose buckets donors are walked over. In
+//! contracts, `IsAxis` says that a field is kept and numerical, with this weight and this scale.
 ghost use Rattle.std.specs.Prelude.{◌≡◌, ◌&&◌, ◌<◌, ◌≤◌, false, None, IfNone, IfSome, Some, is_some, length};
 ghost use Rattle.foundation.specs.Limits.{most_fields, most_weight};
 ghost use Rattle.edit_model.specs.FieldSets.{has_number};
@@ -10,7 +11,7 @@ ghost use Rattle.donor_search.specs.inner.Spans.{bucket_gap_at};
 use donor_measure::{Yardsticks, apart_by_buckets};
 use edit_model::FieldSet;
 
-/// A kept numerical field, with its weight and its scale.
+/// A kept numerical field, with its weight and its scale, by which its buckets are counted.
 #[derive(Clone, Copy, Debug, PartialEq, Eq)]
 pub(crate) struct Axis {
     pub field: u32,
@@ -19,7 +20,8 @@ pub(crate) struct Axis {
 }
 
 impl Axis {
-    /// The gap of two buckets at the field.
+    /// The gap of the buckets `first` and `second` at the field: its weight times the whole buckets between
+    /// them, of which at most 1000 count. Two records with these buckets are at least that far apart.
     #[inline(always)]
     pub fn gap(self, first: u128, second: u128) -> u64
         requires { self.weight ≤ most_weight }
@@ -29,7 +31,7 @@ impl Axis {
     }
 }
 
-/// The first kept numerical field.
+/// The first kept numerical field; None where no kept field is numerical.
 pub(crate) fn first_axis(yardsticks: &Yardsticks, kept: FieldSet) -> Option<Axis>
     ensures some { IfSome result (λ axis. IsAxis yardsticks.now kept axis × (index_field yardsticks.now kept ≡ Some axis.field)) }
     ensures none { IfNone result (index_field yardsticks.now kept ≡ None) }
@@ -43,7 +45,7 @@ pub(crate) fn first_axis(yardsticks: &Yardsticks, kept: FieldSet) -> Option<Axis
     None
 }
 
-// The field, where it is kept and numerical.
+// The field as an axis, where it is kept and numerical; else None.
 fn axis_at(yardsticks: &Yardsticks, kept: FieldSet, field: u32) -> Option<Axis>
     requires field { field < length yardsticks.now }
     requires small { field < most_fields }

@@ -1,3 +1,6 @@
+//! The nearest donors that were found so far, in order: by distance, then by number. In this file `near` is
+//! how many are asked for at most. In contracts, `IsClosedAt` says that no donor at this distance or
+//! farther has a place among them. `Reaches` says that some candidate is at least this far.
 ghost use Rattle.std.specs.Prelude.{◌≡◌, ◌+◌, ◌<◌, ◌≤◌, true, false, length, take, IfNone, IfSome, OnOk};
 ghost use Rattle.std.specs.List.{position, position_or_len};
 ghost use Rattle.donor_search.specs.Rankings.{IsInOrder, placed};
@@ -5,7 +8,7 @@ ghost use Rattle.donor_search.specs.inner.Candidates.{IsClosedAt, IsOpenOrReache
 
 use foundation::OutOfMemory;
 
-/// A donor with its distance from the record that is ranked for.
+/// A donor with its distance from the record for which donors are ranked.
 #[derive(Clone, Copy, Debug, PartialEq, Eq)]
 pub(crate) struct Candidate {
     pub distance: u64,
@@ -13,7 +16,7 @@ pub(crate) struct Candidate {
 }
 
 impl Candidate {
-    /// Whether it is nearer than the other, or as near and of the lesser number.
+    /// Whether this candidate is nearer than the other, or is as near and has the lesser donor's number.
     fn is_before(self, other: &Candidate) -> bool
         ensures { result ≡ is_before self other.now }
     {
@@ -22,7 +25,8 @@ impl Candidate {
     }
 }
 
-/// Puts the candidate at its place among at most `near`, of which no more than that stay.
+/// Puts the candidate at its place among the nearest, of which no more than `near` stay. Where `near` others
+/// come before it, it is left out.
 pub(crate) fn put(
     nearest: &mut Vec<Candidate>,
     candidate: Candidate,
@@ -39,8 +43,8 @@ pub(crate) fn put(
     Ok(())
 }
 
-/// The distance of the last of `near` candidates; None where there are fewer. A candidate that is farther
-/// has no place among them.
+/// The distance of the last of the nearest, where there are `near` of them; a donor that is farther has no
+/// place among them. None where there are fewer, or where `near` is 0.
 pub(crate) fn farthest(nearest: &[Candidate], near: usize) -> Option<u64>
     requires few { length nearest.now ≤ near }
     requires order { IsInOrder is_before nearest.now }
@@ -57,7 +61,8 @@ pub(crate) fn farthest(nearest: &[Candidate], near: usize) -> Option<u64>
     }
 }
 
-/// Whether no donor that is at least so far has a place among the nearest.
+/// Whether no donor at a distance of at least `gap` has a place among the nearest. There are `near` of them
+/// then, and the last is nearer than that.
 pub(crate) fn is_closed_at(nearest: &[Candidate], near: usize, gap: u64) -> bool
     requires few { length nearest.now ≤ near }
     requires order { IsInOrder is_before nearest.now }
@@ -70,7 +75,8 @@ pub(crate) fn is_closed_at(nearest: &[Candidate], near: usize, gap: u64) -> bool
     }
 }
 
-// The place of the first that the candidate comes before, or the end.
+// The place of the first of the nearest that the candidate comes before, or the end where it comes before
+// none.
 fn place_of(nearest: &[Candidate], candidate: Candidate) -> usize
     ensures place { result ≡ position_or_len (is_before candidate) nearest.now }
     ensures bound { result ≤ length nearest.now }
@@ -81,7 +87,7 @@ fn place_of(nearest: &[Candidate], candidate: Candidate) -> usize
     }
 }
 
-// The place of the first that the candidate comes before.
+// The place of the first of the nearest that the candidate comes before, if there is one.
 fn first_behind(nearest: &[Candidate], candidate: Candidate) -> Option<usize>
     ensures { result ≡ position (is_before candidate) nearest.now }
 {

@@ -1,4 +1,5 @@
-//! Which rows are donors: the clean ones, or those of them that are in one imputation class.
+//! Which rows are donors: the clean ones, or those of them that are in one imputation class. In contracts,
+//! `donors_in` is the list of their numbers, in row order.
 ghost use Rattle.std.specs.Prelude.{◌≡◌, ◌<◌, ◌++◌, length, All, IfOk, OnOk};
 ghost use Rattle.std.specs.List.{AllByRecursion};
 ghost use Rattle.std.specs.List.Sorted.{IsStrictlyIncreasing};
@@ -13,7 +14,7 @@ use foundation::OutOfMemory;
 use record_text::Sheet;
 use std::alloc::Global;
 
-/// An imputation class: the rows that have the code of this number at this field.
+/// An imputation class: the rows that have the code of the number `code` at the class field `field`.
 #[derive(Clone, Copy, Debug, PartialEq, Eq)]
 pub(crate) struct Class {
     pub field: u32,
@@ -21,7 +22,8 @@ pub(crate) struct Class {
 }
 
 impl Class {
-    // Whether the row has the code. None has it at a field past the last.
+    // Whether the row has the class's code. No row has it where the class field is numerical or past the
+    // last.
     fn has(self, row: &Row) -> bool
         ensures { result ≡ has_code self.field self.code row.now }
     {
@@ -32,7 +34,7 @@ impl Class {
     }
 }
 
-/// The numbers of the clean rows, of the class where there is one, in rising order.
+/// The numbers of the sheet's clean rows, in rising order; where there is a class, of those in it alone.
 pub(crate) fn donor_rows(
     alloc: Global,
     survey: &Survey,
@@ -51,7 +53,7 @@ pub(crate) fn donor_rows(
     Ok(rows)
 }
 
-// Puts the row's number last where the row is a donor.
+// Appends the row's number where the row is a donor.
 fn push_donor(
     rows: &mut Vec<u32>,
     survey: &Survey,
@@ -70,7 +72,8 @@ fn push_donor(
     Ok(())
 }
 
-// Whether the row is clean, and in the class where there is one. That it is in the class is asked first, since it costs less.
+// Whether the row is clean, and in the class where there is one. The class is asked for first, since that
+// costs less.
 fn is_donor(survey: &Survey, row: &Row, class: Option<Class>) -> bool
     requires { IsRow survey.now.fields row.now }
     ensures { result ≡ is_donor_in survey.now class row.now }

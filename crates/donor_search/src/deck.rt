@@ -1,9 +1,12 @@
+//! Decks of donors, with what is kept beside them so that the near ones are found without looking at all.
+//! Marks and ranges are flat lists here: those of one donor, row or block after those of another. Each has
+//! one for each field in declared order, or for each of the first eight.
 ghost use Rattle.std.specs.Prelude.{◌≡◌, ℕ, ◌<◌, length, All, IfOk};
 ghost use Rattle.std.specs.Arc.{arc_value};
 ghost use Rattle.std.specs.List.{AllByRecursion, flat_map};
 ghost use Rattle.std.specs.List.Sorted.{IsStrictlyIncreasing};
 ghost use Rattle.edit_model.specs.Rows.{IsRow};
-ghost use Rattle.edit_model.specs.PlainNumbers.{HasPlain};
+ghost use Rattle.edit_model.specs.PlainNumbers.{HasPlainNumbers};
 ghost use Rattle.donor_measure.specs.Buckets.{marks_of};
 ghost use Rattle.donor_measure.specs.Yardsticks.{yardstick_at, yardsticks_of};
 ghost use Rattle.donor_search.specs.Classes.{donors_of_class};
@@ -25,17 +28,25 @@ use std::alloc::Global;
 use std::marker::Model;
 use std::sync::Arc;
 
-/// The donors of a sheet, or of one imputation class of it: the numbers of clean rows, in rising order. Beside them it keeps, for each
-/// numerical field, the donors in the order of their buckets there, and marks with their ranges, which tell donors that are far away.
-/// Contracts see the lists.
+/// The donors of a sheet, or of one imputation class of it: the numbers of clean rows, in rising order.
+/// Beside them it keeps, for each numerical field, the donors in the order of their buckets there. It also
+/// keeps marks with their ranges, which tell donors that are far away. Contracts see the lists.
 #[derive(Debug, Drop)]
 pub struct Deck {
+    // The donors: the numbers of their rows, in rising order.
     rows: Vec<u32>,
+    // For each field its slots: the donors in the order of their buckets there, and none where it is
+    // categorical.
     index: Vec<Sequence<Slot>>,
+    // The marks of all rows of the sheet, one row after the other.
     marks: Arc<RowMarks>,
+    // The first numerical field; the number of fields where there is none.
     first: u32,
+    // The marks of the donors, one donor after the other in the order of that field's slots.
     walk_marks: Vec<u16>,
+    // The same at the first eight fields alone, or at all where there are fewer.
     first_marks: Vec<u16>,
+    // The ranges of these marks, one block after the other, for each whole block of donors in that order.
     ranges: Vec<MarkRange>,
 }
 
@@ -60,16 +71,17 @@ impl Model for Deck {
 }
 
 impl Deck {
-    /// The clean rows of the sheet: those without a Bad field at which every rule of the survey holds.
-    /// The sheet is one of the survey. Where its numbers have numerators below 10^21 and denominators of
-    /// at most 10^6, a ranking for any kept fields may be asked of the donors.
+    /// The deck of all clean rows of the sheet: those without a Bad field at which every rule of the survey
+    /// holds. The sheet is one of the survey. A ranking for any kept fields may be asked of the deck
+    /// (`CanAllGive`), and what it keeps is right (`IsDeckOf`), where all numbers are plain. Plain are
+    /// numerators below 10^21 with denominators of at most 10^6.
     pub fn new(alloc: Global, survey: &Survey, sheet: &Sheet) -> Result<Deck, OutOfMemory>
         requires { AllByRecursion (IsRow survey.now.fields) sheet.now.rows }
         ensures clean { IfOk result (λ deck. deck.donors ≡ donors_of survey.now sheet.now.rows) }
         ensures rows { IfOk result (λ deck. All (IsCleanRow survey.now sheet.now.rows) deck.donors) }
         ensures rising { IfOk result (λ deck. IsStrictlyIncreasing deck.donors) }
         ensures measurable { IfOk result (λ deck. CanAllGive survey.now sheet.now.rows deck.donors) }
-        ensures index { IfOk result (λ deck. AllByRecursion HasPlain sheet.now.rows
+        ensures index { IfOk result (λ deck. AllByRecursion HasPlainNumbers sheet.now.rows
             → IsDeckOf (yardsticks_of survey.now.fields) sheet.now.rows deck) }
     {
         let rows = donor_rows(alloc, survey, sheet, None)?;
@@ -77,9 +89,10 @@ impl Deck {
         deck_of(alloc, survey, sheet, marks, rows)
     }
 
-    /// The clean rows of the sheet that have this code at this field, in row order: the donors of one imputation class. There are none
-    /// where the field is numerical or past the last. The sheet is one of the survey, and these are the marks of its rows, which the
-    /// decks of all classes share. A ranking may be asked of them as of all donors.
+    /// The deck of the clean rows that have this code at this field: the donors of one imputation class.
+    /// There are none where the field is numerical or past the last. `marks` are those of the sheet's rows,
+    /// which the decks of all classes share. What the deck may be asked, and what it keeps, is as
+    /// [`Deck::new`] says.
     pub fn of_class(
         alloc: Global,
         survey: &Survey,
@@ -89,13 +102,13 @@ impl Deck {
         code: u8,
     ) -> Result<Deck, OutOfMemory>
         requires rows { AllByRecursion (IsRow survey.now.fields) sheet.now.rows }
-        requires marks { AllByRecursion HasPlain sheet.now.rows
+        requires marks { AllByRecursion HasPlainNumbers sheet.now.rows
             → arc_value marks.now ≡ flat_map (marks_of (yardsticks_of survey.now.fields)) sheet.now.rows }
         ensures of_class { IfOk result (λ deck. deck.donors ≡ donors_of_class survey.now sheet.now.rows field code) }
         ensures rows { IfOk result (λ deck. All (IsCleanRow survey.now sheet.now.rows) deck.donors) }
         ensures rising { IfOk result (λ deck. IsStrictlyIncreasing deck.donors) }
         ensures measurable { IfOk result (λ deck. CanAllGive survey.now sheet.now.rows deck.donors) }
-        ensures index { IfOk result (λ deck. AllByRecursion HasPlain sheet.now.rows
+        ensures index { IfOk result (λ deck. AllByRecursion HasPlainNumbers sheet.now.rows
             → IsDeckOf (yardsticks_of survey.now.fields) sheet.now.rows deck) }
     {
         let class = Class { field, code };
@@ -103,7 +116,7 @@ impl Deck {
         deck_of(alloc, survey, sheet, Arc::try_clone(marks)?, rows)
     }
 
-    /// The numbers of the clean rows, in rising order. No memory.
+    /// The numbers of the donors, in rising order. No memory.
     pub fn rows(&self) -> &[u32]
         ensures rows { result.now ≡ self.now.donors }
         ensures rising { IsStrictlyIncreasing result.now }
@@ -111,14 +124,15 @@ impl Deck {
         self.rows.as_slice()
     }
 
-    // The slots of a field.
+    // The slots of a field: the donors by their buckets there. None where the field is categorical or past
+    // the last.
     pub(crate) fn slots(&self, field: u32) -> &[Slot]
         ensures { result.now ≡ slots_at self.now.index field }
     {
         slots_in(&self.index, field)
     }
 
-    // The marks of all rows.
+    // The marks of all rows of the sheet, one row after the other, each with one mark for each field.
     #[inline(always)]
     pub(crate) fn marks(&self) -> &[u16]
         ensures { result.now ≡ self.now.marks }
@@ -126,14 +140,15 @@ impl Deck {
         self.marks.as_slice()
     }
 
-    // The first numerical field, if there is one.
+    // The first numerical field; where there is none, the number of fields.
     pub(crate) fn first(&self) -> u32
         ensures { result ≡ self.now.first }
     {
         self.first
     }
 
-    // The marks of the donors in the order of the slots of that field.
+    // The marks of the donors, one donor after the other in the order of the slots of the first numerical
+    // field. Each donor has one mark for each field. None where no field is numerical.
     #[inline(always)]
     pub(crate) fn walk_marks(&self) -> &[u16]
         ensures { result.now ≡ self.now.walk_marks }
@@ -141,7 +156,8 @@ impl Deck {
         self.walk_marks.as_slice()
     }
 
-    // These marks at the first fields alone.
+    // The marks of the donors at the first eight fields alone, or at all where there are fewer. They stand
+    // one donor after the other in the same order.
     #[inline(always)]
     pub(crate) fn first_marks(&self) -> &[u16]
         ensures { result.now ≡ self.now.first_marks }
@@ -149,7 +165,8 @@ impl Deck {
         self.first_marks.as_slice()
     }
 
-    // The ranges of the marks in each whole block of donors.
+    // The ranges of the marks in each whole block of 32 donors in the same order, one block after the other.
+    // Each block has one range for each field.
     #[inline(always)]
     pub(crate) fn ranges(&self) -> &[MarkRange]
         ensures { result.now ≡ self.now.ranges }
@@ -158,7 +175,9 @@ impl Deck {
     }
 }
 
-// The deck of these donors, which are clean rows in rising order, over the marks of all rows.
+// The deck of these donors, which are clean rows in rising order. The marks are those of all rows of the
+// sheet. What it keeps beside the donors is right where the sheet's numbers are as small as the numerals of
+// record files spell them (`HasPlainNumbers`).
 fn deck_of(
     alloc: Global,
     survey: &Survey,
@@ -166,14 +185,14 @@ fn deck_of(
     marks: Arc<RowMarks>,
     rows: Vec<u32>,
 ) -> Result<Deck, OutOfMemory>
-    requires marks { AllByRecursion HasPlain sheet.now.rows
+    requires marks { AllByRecursion HasPlainNumbers sheet.now.rows
         → arc_value marks ≡ flat_map (marks_of (yardsticks_of survey.now.fields)) sheet.now.rows }
     requires fits { AllByRecursion (IsRow survey.now.fields) sheet.now.rows }
     requires clean { All (IsCleanRow survey.now sheet.now.rows) rows.items }
     requires rising { IsStrictlyIncreasing rows.items }
     ensures rows { IfOk result (λ deck. deck.donors ≡ rows.items) }
     ensures measurable { IfOk result (λ deck. CanAllGive survey.now sheet.now.rows deck.donors) }
-    ensures index { IfOk result (λ deck. AllByRecursion HasPlain sheet.now.rows
+    ensures index { IfOk result (λ deck. AllByRecursion HasPlainNumbers sheet.now.rows
         → IsDeckOf (yardsticks_of survey.now.fields) sheet.now.rows deck) }
 {
     let index = index_of(alloc, survey, sheet, &rows)?;
@@ -194,7 +213,8 @@ fn deck_of(
     })
 }
 
-// The slots of a field; none past the last.
+// The slots of a field in an index of all: the donors by their buckets there. None where the field is past
+// the last.
 fn slots_in(index: &[Sequence<Slot>], field: u32) -> &[Slot]
     ensures { result.now ≡ slots_at index.now field }
 {
@@ -204,7 +224,7 @@ fn slots_in(index: &[Sequence<Slot>], field: u32) -> &[Slot]
     }
 }
 
-// The first numerical field; how many fields there are, where there is none.
+// The first numerical field; where there is none, the number of fields.
 fn first_number(survey: &Survey) -> u32 {
     let yardsticks = Yardsticks::of(survey);
     for field in 0..yardsticks.count() {
@@ -215,7 +235,7 @@ fn first_number(survey: &Survey) -> u32 {
     yardsticks.count()
 }
 
-// The slots of each field.
+// The index of these donors: for each field, in declared order, its slots, as [`slots_of`] makes them.
 fn index_of(
     alloc: Global,
     survey: &Survey,
@@ -227,7 +247,7 @@ fn index_of(
     ensures fields { IfOk result (λ index. length index.items ≡ length survey.now.fields) }
     ensures donors { IfOk result (λ index. (f : ℕ)
         → All (λ (s : AnySlot). s.donor < length sheet.now.rows) (slots_at index.items f)) }
-    ensures slots { IfOk result (λ index. AllByRecursion HasPlain sheet.now.rows → (f : ℕ) → f < length survey.now.fields
+    ensures slots { IfOk result (λ index. AllByRecursion HasPlainNumbers sheet.now.rows → (f : ℕ) → f < length survey.now.fields
         → AreSlots (yardstick_at (yardsticks_of survey.now.fields) f).scale sheet.now.rows f donors.now (slots_at index.items f)) }
 {
     let yardsticks = Yardsticks::of(survey);

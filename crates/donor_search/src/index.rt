@@ -1,8 +1,10 @@
-//! What a deck keeps beside its donors.
+//! What a deck keeps beside its donors: slots, which are donors with their buckets at a field, and marks.
+//! In contracts, `AllByRecursion HasPlainNumbers` says that all numbers of the sheet are plain; of other sheets no
+//! contract says that buckets and marks are right.
 ghost use Rattle.std.specs.Prelude.{◌≡◌, ◌++◌, ◌+◌, ◌*◌, ◌<◌, ◌≤◌, ◌^◌, All, IfOk, OnOk, length, map, min, take};
 ghost use Rattle.std.specs.List.{AllByRecursion, flat_map};
 ghost use Rattle.std.specs.List.Sorted.{IsNonDecreasingBy, IsPermutation};
-ghost use Rattle.edit_model.specs.PlainNumbers.{HasPlain};
+ghost use Rattle.edit_model.specs.PlainNumbers.{HasPlainNumbers};
 ghost use Rattle.edit_model.specs.Rows.{IsRow};
 ghost use Rattle.donor_measure.specs.Buckets.{marks_of};
 ghost use Rattle.donor_measure.specs.Yardsticks.{IsScale, yardsticks_of};
@@ -16,7 +18,9 @@ use foundation::{OutOfMemory, Sequence};
 use record_text::Sheet;
 use std::alloc::Global;
 
-/// The slots of a field: none where it is categorical, and else the donors in the order of their buckets there.
+/// The slots of a field: none where it is categorical, which has no scale. Else they are the donors in the
+/// order of their buckets there. The buckets are right where the records' numbers are as small as the
+/// numerals of record files spell them (`HasPlainNumbers`).
 pub(crate) fn slots_of(
     alloc: Global,
     survey: &Survey,
@@ -29,7 +33,7 @@ pub(crate) fn slots_of(
     requires scale { IsScale scale }
     requires rows { AllByRecursion (IsRow survey.now.fields) sheet.now.rows }
     requires donors { All (λ donor. donor < length sheet.now.rows) donors.now }
-    ensures slots { IfOk result (λ slots. AllByRecursion HasPlain sheet.now.rows
+    ensures slots { IfOk result (λ slots. AllByRecursion HasPlainNumbers sheet.now.rows
         → AreSlots scale sheet.now.rows field donors.now slots) }
     ensures donors { IfOk result (λ slots. All (λ (s : AnySlot). s.donor < length sheet.now.rows) slots) }
 {
@@ -40,7 +44,9 @@ pub(crate) fn slots_of(
     Ok(Sequence::from_vec(slots))
 }
 
-// The donors with their buckets at a numerical field, in the order of the buckets.
+// The donors with their buckets at a field of this scale, which is numerical, in the order of the buckets.
+// The buckets are right where the records' numbers are as small as the numerals of record files spell them
+// (`HasPlainNumbers`).
 fn sorted_slots(
     alloc: Global,
     survey: &Survey,
@@ -53,7 +59,7 @@ fn sorted_slots(
     requires scale { (1 ≤ scale) × (scale ≤ 10 ^ 12) }
     requires rows { AllByRecursion (IsRow survey.now.fields) sheet.now.rows }
     requires donors { All (λ donor. donor < length sheet.now.rows) donors.now }
-    ensures same { IfOk result (λ slots. AllByRecursion HasPlain sheet.now.rows
+    ensures same { IfOk result (λ slots. AllByRecursion HasPlainNumbers sheet.now.rows
         → IsPermutation (map (slot_of scale sheet.now.rows field) donors.now) slots.items) }
     ensures order { IfOk result (λ slots. IsNonDecreasingBy (λ (s : AnySlot). s.bucket) slots.items) }
     ensures donors { IfOk result (λ slots. All (λ (s : AnySlot). s.donor < length sheet.now.rows) slots.items) }
@@ -63,7 +69,7 @@ fn sorted_slots(
     Ok(slots)
 }
 
-// Puts the slots in the order of their buckets.
+// Puts the slots in the order of their buckets; slots of one bucket come in any order.
 fn sort(slots: &mut Vec<Slot>)
     ensures same { IsPermutation slots.old.items slots.new.items }
     ensures order { IsNonDecreasingBy (λ (s : AnySlot). s.bucket) slots.new.items }
@@ -71,7 +77,9 @@ fn sort(slots: &mut Vec<Slot>)
     slots.sort_unstable_by_key(|slot| slot.bucket);
 }
 
-// The donors with their buckets at a numerical field.
+// The donors with their buckets at a field of this scale, which is numerical, in the order of the donors.
+// The buckets are right where the records' numbers are as small as the numerals of record files spell them
+// (`HasPlainNumbers`).
 fn row_slots(
     alloc: Global,
     survey: &Survey,
@@ -84,7 +92,7 @@ fn row_slots(
     requires scale { (1 ≤ scale) × (scale ≤ 10 ^ 12) }
     requires rows { AllByRecursion (IsRow survey.now.fields) sheet.now.rows }
     requires donors { All (λ donor. donor < length sheet.now.rows) donors.now }
-    ensures slots { IfOk result (λ slots. AllByRecursion HasPlain sheet.now.rows
+    ensures slots { IfOk result (λ slots. AllByRecursion HasPlainNumbers sheet.now.rows
         → slots.items ≡ map (slot_of scale sheet.now.rows field) donors.now) }
     ensures donors { IfOk result (λ slots. All (λ (s : AnySlot). s.donor < length sheet.now.rows) slots.items) }
 {
@@ -95,13 +103,14 @@ fn row_slots(
     Ok(slots)
 }
 
-// A donor with its bucket.
+// A donor with its bucket at a field of this scale, which is right where the records' numbers are plain, as
+// above. The survey stands here for the contract alone.
 fn slot(survey: &Survey, sheet: &Sheet, donor: u32, field: u32, scale: u64) -> Slot
     requires field { field < length survey.now.fields }
     requires scale { (1 ≤ scale) × (scale ≤ 10 ^ 12) }
     requires rows { AllByRecursion (IsRow survey.now.fields) sheet.now.rows }
     requires donor { donor < length sheet.now.rows }
-    ensures slot { AllByRecursion HasPlain sheet.now.rows → result ≡ slot_of scale sheet.now.rows field donor }
+    ensures slot { AllByRecursion HasPlainNumbers sheet.now.rows → result ≡ slot_of scale sheet.now.rows field donor }
     ensures donor { result.donor ≡ donor }
 {
     let _ = survey;
@@ -111,7 +120,9 @@ fn slot(survey: &Survey, sheet: &Sheet, donor: u32, field: u32, scale: u64) -> S
     }
 }
 
-/// The marks of the donors at so many fields at most, in the order of these slots.
+/// The marks of the donors at the first `most` fields, or at all where there are fewer. They stand one donor
+/// after the other, in the order of these slots. They are right where the records' numbers are as small as
+/// the numerals of record files spell them (`HasPlainNumbers`).
 pub(crate) fn marks_of_slots(
     alloc: Global,
     survey: &Survey,
@@ -122,7 +133,7 @@ pub(crate) fn marks_of_slots(
     requires rows { AllByRecursion (IsRow survey.now.fields) sheet.now.rows }
     requires donors { All (λ (s : AnySlot). s.donor < length sheet.now.rows) slots.now }
     ensures size { IfOk result (λ marks. length marks.items ≡ length slots.now * min most (length survey.now.fields)) }
-    ensures marks { IfOk result (λ marks. AllByRecursion HasPlain sheet.now.rows
+    ensures marks { IfOk result (λ marks. AllByRecursion HasPlainNumbers sheet.now.rows
         → marks.items ≡ flat_map (slot_first_marks most (yardsticks_of survey.now.fields) sheet.now.rows) slots.now) }
 {
     let yardsticks = Yardsticks::of(survey);
@@ -133,7 +144,9 @@ pub(crate) fn marks_of_slots(
     Ok(marks)
 }
 
-/// Puts the marks of a row at so many fields at most last.
+/// Appends the marks of a row at the first `most` fields, or at all where there are fewer: one for each
+/// field, in declared order. They are right where the row's numbers are as small as the numerals of record
+/// files spell them (`HasPlainNumbers`).
 pub(crate) fn push_marks(
     marks: &mut Vec<u16>,
     yardsticks: &Yardsticks,
@@ -142,7 +155,8 @@ pub(crate) fn push_marks(
 ) -> Result<(), OutOfMemory>
     requires { length yardsticks.now ≡ length row.now }
     ensures size { OnOk result (length marks.new.items ≡ length marks.old.items + min most (length yardsticks.now)) }
-    ensures marks { HasPlain row.now → OnOk result (marks.new.items ≡ marks.old.items ++ take most (marks_of yardsticks.now row.now)) }
+    ensures marks { HasPlainNumbers row.now
+        → OnOk result (marks.new.items ≡ marks.old.items ++ take most (marks_of yardsticks.now row.now)) }
 {
     for field in 0..most.min(yardsticks.count()) {
         marks.push(mark_of(yardsticks.at(field).scale, row.value(field)))?;

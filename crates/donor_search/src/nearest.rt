@@ -1,3 +1,7 @@
+//! The ranking of donors for a record. In contracts, `Measures` says that the closure answers the distance
+//! of two values. `HasMeasurable` and `IsRankable` say that a record and a donor can be measured, `AreRanked`
+//! that candidates are those of the ranking. `most_asked`, or `most_in` of a search, counts the donors whose
+//! bucket gap is at most the distance of the last of a full ranking. Of another ranking it is all.
 ghost use Rattle.std.specs.Prelude.{◌≡◌, ◌+◌, ◌≤◌, All, IfOk, length, map, nat_eq};
 ghost use Rattle.std.specs.List.{Contains, IsDistinct};
 ghost use Rattle.donor_measure.specs.Measures.{HasMeasurable, Measures};
@@ -22,10 +26,10 @@ use record_text::Sheet;
 use std::alloc::Global;
 use std::sync::ledger::Ledger;
 
-/// The donors for a record: the first `near` of the deck by distance over the kept fields, then by
-/// number, none of them twice. The record and the donors, which are rows of the sheet, have codes or numbers at the kept
-/// fields, numbers with numerators below 10^21 and denominators of at most 10^6. One step is counted for each donor that is
-/// measured.
+/// The donors for a record: the first `near` of the deck by distance over the kept fields, then by number,
+/// none of them twice. The donors are rows of the sheet. They and the record have codes or numbers at the
+/// kept fields, numbers with numerators below 10^21 and denominators of at most 10^6. One step is counted
+/// for each donor that is measured, which are `most_asked` at most.
 pub fn ranking<F: Fn(u32, &Value, &Value) -> u64, L: Ledger>(
     alloc: Global,
     deck: &Deck,
@@ -65,7 +69,8 @@ pub fn ranking<F: Fn(u32, &Value, &Value) -> u64, L: Ledger>(
     donors_of(alloc, &nearest)
 }
 
-// The nearest donors: by the first kept numerical field, where there is one.
+// The nearest donors, by a walk along the buckets of the first kept numerical field. Where no such field is
+// kept, each donor is looked at.
 fn nearest_of<F: Fn(u32, &Value, &Value) -> u64, L: Ledger>(
     alloc: Global,
     search: &Search<F>,
@@ -84,7 +89,8 @@ fn nearest_of<F: Fn(u32, &Value, &Value) -> u64, L: Ledger>(
     }
 }
 
-// The nearest donors, where each is looked at.
+// The nearest donors, where each of the deck is looked at in turn. `profile` has the record's marks
+// (`IsProfile`), by which donors that are too far are told before they are measured.
 fn scan<F: Fn(u32, &Value, &Value) -> u64, L: Ledger>(
     alloc: Global,
     search: &Search<F>,
@@ -104,7 +110,7 @@ fn scan<F: Fn(u32, &Value, &Value) -> u64, L: Ledger>(
     Ok(nearest)
 }
 
-// The numbers of the donors.
+// The numbers of the donors, in the order of the candidates.
 fn donors_of(alloc: Global, nearest: &[Candidate]) -> Result<Vec<u32>, OutOfMemory>
     ensures { IfOk result (λ donors. donors.items ≡ map (λ (c : AnyCandidate). c.donor) nearest.now) }
 {

@@ -1,4 +1,6 @@
 //! Donors that the walk passes over: they are farther than the last of the nearest, as their marks tell.
+//! They are neither measured nor looked at in the sheet. In contracts, `IsPassing` says that the parts of a
+//! [`Passing`] are of one search. `AreFar` says that the donors between two places are farther than `most`.
 ghost use Rattle.std.specs.Prelude.{◌≡◌, ◌⊎◌, ◌+◌, ◌-◌, ◌≤◌, ◌<◌, length, true};
 ghost use Rattle.donor_search.specs.Decks.{block_size, slot_at, slots_at};
 ghost use Rattle.donor_search.specs.Rankings.{IsInOrder};
@@ -16,8 +18,8 @@ use crate::slot::Slot;
 use crate::span::Span;
 use edit_model::Value;
 
-/// What donors are passed over by: in a walk along the slots of a field, those that are farther than `most` from the record of the
-/// search, of which these are the own marks.
+/// What donors are passed over by, in a walk along the slots of a field. Those are passed over that are
+/// farther than `most` from the record of the search. `own` has that record's marks with their weights.
 #[derive(Clone, Copy)]
 pub(crate) struct Passing<'a, F> {
     pub search: &'a Search<'a, F>,
@@ -27,8 +29,9 @@ pub(crate) struct Passing<'a, F> {
     pub most: u64,
 }
 
-/// The span with the donors on the side of the place that follow one another and are farther than the last of `near`; the span
-/// itself where there are fewer candidates.
+/// The span of slots of `field` that was walked over, widened on the side of `place`, which is next to it.
+/// It is widened by donors that follow one another and are farther than the last of the nearest, as their
+/// marks tell. It stays as it is while fewer are found than are asked for, or where none is asked for.
 pub(crate) fn past<F: Fn(u32, &Value, &Value) -> u64>(
     search: &Search<F>,
     profile: &Profile,
@@ -72,8 +75,9 @@ pub(crate) fn past<F: Fn(u32, &Value, &Value) -> u64>(
     }
 }
 
-// The first place from `start` on, in its block, of which the marks do not tell that the donor is farther than `most`; the end of
-// the block where there is none.
+// The first place from `start` on of which the marks do not tell that the donor is farther than `most`. It
+// is looked for in the block of `start` alone. Where there is none, the answer is the end of the block, or
+// of the slots. Where ranges tell it of a whole block from `start` on, its end is the answer at once.
 fn far_above<F: Fn(u32, &Value, &Value) -> u64>(passing: &Passing<F>, start: usize) -> usize
     requires passing { IsPassing F.Fn passing.now }
     requires start { start ≤ length (slots_of passing.now) }
@@ -95,8 +99,8 @@ fn far_above<F: Fn(u32, &Value, &Value) -> u64>(passing: &Passing<F>, start: usi
     place
 }
 
-// The first place of the donors right below `end`, in one block, that are farther than `most`, as their marks tell; `end` where
-// there is none.
+// The least place from which all donors up to `end`, without that, are farther than `most`, as their marks
+// tell. Only the block right below `end` is looked at. The answer is `end` where there is no such donor.
 fn far_below<F: Fn(u32, &Value, &Value) -> u64>(passing: &Passing<F>, end: usize) -> usize
     requires passing { IsPassing F.Fn passing.now }
     requires some { 1 ≤ end }
@@ -118,7 +122,8 @@ fn far_below<F: Fn(u32, &Value, &Value) -> u64>(passing: &Passing<F>, end: usize
     place
 }
 
-// Whether the marks of the donor at a place tell that it is farther than `most`.
+// Whether the marks of the donor at this place of the slots tell that it is farther than `most`. Those at
+// the first eight fields are asked first, as they often suffice.
 #[inline(always)]
 fn is_far<F: Fn(u32, &Value, &Value) -> u64>(passing: &Passing<F>, place: usize) -> bool
     requires passing { IsPassing F.Fn passing.now }
@@ -135,8 +140,8 @@ fn is_far<F: Fn(u32, &Value, &Value) -> u64>(passing: &Passing<F>, place: usize)
     is_farther_with(passing.own, marks, first, passing.most)
 }
 
-// Whether a whole block ends before the place, of which the ranges tell that each of its donors is farther than `most`. Only in the
-// walk by the first numerical field there are ranges.
+// Whether a whole block ends at the place `end` (without that), of which the ranges tell that each donor is
+// farther than `most`. False in a walk by any but the first numerical field, which alone has ranges.
 fn is_block_far<F: Fn(u32, &Value, &Value) -> u64>(passing: &Passing<F>, end: usize) -> bool
     requires passing { IsPassing F.Fn passing.now }
     requires some { 1 ≤ end }

@@ -1,4 +1,7 @@
-//! Whether a donor is too far away to be measured, by marks.
+//! Whether a donor is too far away to be measured, told by marks. Two values whose marks differ by d are at
+//! least d - 1 thousandths of the scale apart, or 1000. A list of marks has one for each field, in declared
+//! order. In contracts, `told` is the least distance that marks tell: the sum over the fields of the weight
+//! times these thousandths.
 ghost use Rattle.std.specs.Prelude.{◌≡◌, ◌<◌, ◌≤◌, ◌*◌, ◌-◌, All, length, min, take, true};
 ghost use Rattle.std.specs.Int.{abs_diff};
 ghost use Rattle.foundation.specs.Limits.{most_fields, most_weight};
@@ -13,21 +16,24 @@ use donor_measure::{Yardsticks, mark_of};
 use edit_model::{FieldSet, Row};
 use std::marker::Model;
 
-/// The mark of a record at a field, with the weight that counts there.
+/// The mark of a record at a field, with the weight that counts there. Where the field is not kept, both
+/// are 0.
 #[derive(Clone, Copy, Debug, PartialEq, Eq)]
 pub(crate) struct Weighed {
     pub weight: u16,
     pub mark: u16,
 }
 
-/// How many fields are looked at first. The marks at them stand apart, so that few bytes of a donor are read. In a business survey of 16
-/// fields 8 of them tell 9 in 10 of the donors that no block tells to be far; 4 would tell fewer than half.
+/// How many fields are looked at first. The marks at them stand apart, so that few bytes of a donor are
+/// read. In a business survey of 16 fields, they tell 9 in 10 of the donors that no block tells to be far.
+/// With 4 in place of 8 it would be fewer than half.
 pub(crate) const FIRST: usize = 8;
 
-// What stands in the places behind the last field.
+// What stands at fields that are not kept, and in the places behind the last field.
 const NONE: Weighed = Weighed { weight: 0, mark: 0 };
 
-/// Whether the marks of a donor tell that it is farther from a record than `most`: then nothing needs to be measured.
+/// Whether the marks of a donor tell that it is farther from a record than `most`, so that it need not be
+/// measured. `own` has the record's marks at the same fields.
 #[inline(always)]
 pub(crate) fn is_farther(own: &[Weighed], marks: &[u16], most: u64) -> bool
     requires equal { length own.now ≡ length marks.now }
@@ -38,7 +44,8 @@ pub(crate) fn is_farther(own: &[Weighed], marks: &[u16], most: u64) -> bool
     u64::from(told(own, marks)) > most
 }
 
-/// Whether they tell it, where it is known what those at the first fields tell.
+/// Whether the marks of a donor tell that it is farther from a record than `most`. What those at the first
+/// fields tell was computed before, and is `first`.
 #[inline(always)]
 pub(crate) fn is_farther_with(own: &[Weighed], marks: &[u16], first: u32, most: u64) -> bool
     requires equal { length own.now ≡ length marks.now }
@@ -52,8 +59,8 @@ pub(crate) fn is_farther_with(own: &[Weighed], marks: &[u16], first: u32, most: 
     u64::from(first) + u64::from(rest) > most
 }
 
-/// What the marks of a donor at the first fields tell. The test for fewer fields is there so that the others are always as many, which
-/// makes the loop over them straight.
+/// How far a donor is at least, as its marks at the first eight fields tell. The case of fewer fields stands
+/// apart, so that the loop of the other has a fixed length.
 #[inline(always)]
 pub(crate) fn told_first(own: &[Weighed], first: &[u16]) -> u32
     requires first { length first.now ≡ min first_fields (length own.now) }
@@ -67,7 +74,7 @@ pub(crate) fn told_first(own: &[Weighed], first: &[u16]) -> u32
     told(&own[..FIRST], &first[..FIRST])
 }
 
-/// The marks at the first fields among all of a donor.
+/// Of all marks of a donor those at the first eight fields, or all where there are fewer.
 #[inline(always)]
 pub(crate) fn first_of(marks: &[u16]) -> &[u16]
     ensures { result.now ≡ take first_fields marks.now }
@@ -75,7 +82,8 @@ pub(crate) fn first_of(marks: &[u16]) -> &[u16]
     &marks[..FIRST.min(marks.len())]
 }
 
-// What marks tell of how far the donor is. All these are looked at, since a test at each field would take more time than it spares.
+// How far a donor is at least from the record with the marks `own`, as its marks tell: the sum over the
+// fields. All are looked at, since a test at each field would take more time than it spares.
 #[inline(always)]
 fn told(own: &[Weighed], marks: &[u16]) -> u32
     requires equal { length own.now ≡ length marks.now }
@@ -90,7 +98,8 @@ fn told(own: &[Weighed], marks: &[u16]) -> u32
     sum
 }
 
-// What two marks tell of how far two values are apart.
+// How far two values at a field are at least apart, as their marks tell, times the field's weight. Of marks
+// that differ by d that is d - 1, from 0 to 1000.
 #[inline(always)]
 fn told_by(own: &Weighed, mark: u16) -> u32
     requires { own.now.weight ≤ most_weight }
@@ -101,7 +110,8 @@ fn told_by(own: &Weighed, mark: u16) -> u32
     u32::from(own.weight) * u32::from(apart)
 }
 
-/// Whether the ranges of a block tell that each of its donors is farther from a record than `most`.
+/// Whether the ranges of a block tell that each of its donors is farther from a record than `most`. `own`
+/// has the record's marks at the same fields.
 #[inline(always)]
 pub(crate) fn are_farther(own: &[Weighed], ranges: &[MarkRange], most: u64) -> bool
     requires equal { length own.now ≡ length ranges.now }
@@ -112,7 +122,8 @@ pub(crate) fn are_farther(own: &[Weighed], ranges: &[MarkRange], most: u64) -> b
     u64::from(told_by_ranges(own, ranges)) > most
 }
 
-// What the ranges of a block tell at least of how far its donors are.
+// How far each donor of a block is at least from the record with the marks `own`. The block's ranges tell
+// it, as a sum over the fields.
 #[inline(always)]
 fn told_by_ranges(own: &[Weighed], ranges: &[MarkRange]) -> u32
     requires equal { length own.now ≡ length ranges.now }
@@ -127,7 +138,8 @@ fn told_by_ranges(own: &[Weighed], ranges: &[MarkRange]) -> u32
     sum
 }
 
-// What a mark and a range tell at least of how far two values are apart.
+// How far the record's value at a field is at least from any of a block, times the field's weight. Its mark
+// and the block's range tell it; a mark within the range tells nothing, and gives 0.
 #[inline(always)]
 fn told_by_range(own: &Weighed, range: &MarkRange) -> u32
     requires { own.now.weight ≤ most_weight }
@@ -140,7 +152,8 @@ fn told_by_range(own: &Weighed, range: &MarkRange) -> u32
     u32::from(own.weight) * u32::from(apart)
 }
 
-/// A record's marks at all fields, with their weights. Contracts see them as a list, in declared order.
+/// A record's marks at all fields, with their weights: what is compared with the marks of donors. Contracts
+/// see them as a list, in declared order.
 #[derive(Drop)]
 pub(crate) struct Profile {
     places: [Weighed; 64],
@@ -161,7 +174,8 @@ impl Model for Profile {
 }
 
 impl Profile {
-    /// The profile of a record, which can be measured at the kept fields.
+    /// The profile of a record over the kept fields. It has a code or a plain number at each of these
+    /// (`HasMeasurable`), so that it has a mark there.
     pub fn of(yardsticks: &Yardsticks, row: &Row, kept: FieldSet) -> Profile
         requires { HasMeasurable yardsticks.now kept row.now }
         ensures { IsProfile yardsticks.now kept row.now result }
@@ -172,7 +186,7 @@ impl Profile {
         }
     }
 
-    /// The marks with their weights.
+    /// The record's marks with their weights, one for each field in declared order.
     #[inline(always)]
     pub fn as_slice(&self) -> &[Weighed]
         ensures same { result.now ≡ self.now }
@@ -183,7 +197,7 @@ impl Profile {
     }
 }
 
-// The marks with their weights, in the first places.
+// The marks with their weights, in the first places of the array; nothing stands behind.
 fn places_of(yardsticks: &Yardsticks, row: &Row, kept: FieldSet) -> [Weighed; 64]
     requires { HasMeasurable yardsticks.now kept row.now }
     ensures { take (length yardsticks.now) result ≡ weighed_from 0 yardsticks.now kept row.now }
@@ -195,7 +209,7 @@ fn places_of(yardsticks: &Yardsticks, row: &Row, kept: FieldSet) -> [Weighed; 64
     places
 }
 
-// The mark at a field, with the field's weight.
+// The record's mark at a field, with the field's weight; both 0 where the field is not kept.
 fn weighed_at(yardsticks: &Yardsticks, field: u32, row: &Row, kept: FieldSet) -> Weighed
     requires field { field < length yardsticks.now }
     requires small { field < most_fields }

@@ -1,4 +1,6 @@
-//! The least and the greatest marks of donors that follow one another in the walk, so that many are told to be far at once.
+//! The least and the greatest marks of donors that follow one another in the walk, so that many are told to
+//! be far at once. In contracts, `mark_at` is the mark of a donor at a field in a flat list of marks, and
+//! `range_at` the range at a place. `IsWithin` says that a mark is in a range.
 ghost use Rattle.std.specs.Prelude.{◌≡◌, ◌+◌, ◌*◌, ◌<◌, ◌≤◌, ℕ, IfOk, OnOk, length};
 ghost use Rattle.donor_search.specs.Decks.{IsWithin, block_size, mark_at, range_at};
 
@@ -15,8 +17,9 @@ pub struct MarkRange {
     pub high: u16,
 }
 
-/// The ranges of the marks at each field in each whole block of donors, one block after the other. The marks are those of the
-/// donors, one donor after the other.
+/// The ranges of the marks in each whole block of donors, one block after the other, each with one range for
+/// each field. A last block of fewer than 32 has none. `marks` has `count` marks, one for each field, of
+/// each of so many `donors`, one donor after the other.
 pub(crate) fn ranges_of(
     alloc: Global,
     marks: &[u16],
@@ -39,7 +42,8 @@ pub(crate) fn ranges_of(
     Ok(ranges)
 }
 
-// Puts the ranges of the block that begins with this donor last.
+// Appends the ranges of the block that begins with the donor at place `start`, one for each of the `count`
+// fields.
 fn push_ranges(
     ranges: &mut Vec<MarkRange>,
     marks: &[u16],
@@ -58,7 +62,8 @@ fn push_ranges(
     Ok(())
 }
 
-// The range of the marks at a field in the block that begins with this donor.
+// The range of the marks at a field in the block that begins with the donor at place `start`. The mark of
+// donor d at field f stands at d * count + f.
 fn range_of(marks: &[u16], count: usize, start: usize, field: usize) -> MarkRange
     requires marks { (start + block_size) * count ≤ length marks.now }
     requires field { field < count }

@@ -1,4 +1,6 @@
-//! A search for the nearest donors of one record.
+//! A search for the nearest donors of one record: how one donor is ranked among them, and where its marks
+//! stand. In contracts, `IsSearch` says that record and donors can be measured, and that the deck is one of
+//! the sheet's rows. `IsDeckOf` says the latter alone.
 ghost use Rattle.std.specs.Prelude.{◌≡◌, ◌+◌, ◌*◌, ◌<◌, ◌≤◌, OnOk, length, min, take};
 ghost use Rattle.donor_measure.specs.Buckets.{marks_of};
 ghost use Rattle.donor_search.specs.CleanRows.{IsRankable, row_at};
@@ -18,8 +20,8 @@ use foundation::{OutOfMemory, Steps};
 use record_text::Sheet;
 use std::sync::ledger::Ledger;
 
-/// What donors are ranked by: as many of the deck's, which are rows of the sheet, as `near` for this row, by their distance over
-/// the kept fields.
+/// What donors are ranked by. Of the deck's donors, which are rows of the sheet, the `near` nearest are
+/// looked for. They are compared with `row` by their distance over the kept fields.
 #[derive(Clone, Copy)]
 pub(crate) struct Search<'a, F> {
     pub deck: &'a Deck,
@@ -30,8 +32,9 @@ pub(crate) struct Search<'a, F> {
     pub near: usize,
 }
 
-/// Puts the donor at its place among at most `near`, of which no more than that stay. It is not measured where marks tell
-/// that it has none.
+/// Ranks one more donor: puts it at its place among the best, of which no more than `near` stay. `marks` are
+/// the donor's, and `profile` has the record's (`IsProfile`). It is not measured where these tell that it
+/// has no place.
 pub(crate) fn rank<F: Fn(u32, &Value, &Value) -> u64, L: Ledger>(
     best: &mut Vec<Candidate>,
     donor: u32,
@@ -66,7 +69,8 @@ pub(crate) fn rank<F: Fn(u32, &Value, &Value) -> u64, L: Ledger>(
     }
 }
 
-// Measures the donor, and puts it at its place where it is not farther than `most`, the last of `near`.
+// Measures the donor, and puts it at its place where it is not farther than `most`. That is the distance of
+// the last of the best, which are as many as are asked for.
 fn rank_within<F: Fn(u32, &Value, &Value) -> u64, L: Ledger>(
     best: &mut Vec<Candidate>,
     donor: u32,
@@ -89,7 +93,7 @@ fn rank_within<F: Fn(u32, &Value, &Value) -> u64, L: Ledger>(
     }
 }
 
-/// The marks of a donor.
+/// The marks of a donor, which is a row of the sheet, from those of all rows: one for each field.
 #[inline(always)]
 pub(crate) fn marks_at<'a, F>(search: &Search<'a, F>, donor: u32) -> &'a [u16]
     requires deck { IsDeckOf (yardsticks_in search.now) search.now.sheet.now.rows search.now.deck.now }
@@ -101,8 +105,9 @@ pub(crate) fn marks_at<'a, F>(search: &Search<'a, F>, donor: u32) -> &'a [u16]
     &search.deck.marks()[start..start + count]
 }
 
-/// The marks of the donor of a slot. Most walks go by the first numerical field, and then these stand in the order of the walk,
-/// so that memory is read in order.
+/// The marks of `donor`, which is that of the slot at this place, in the walk by this field. Most walks go by
+/// the first numerical field. Then the marks stand in the order of the walk, so that memory is read in
+/// order.
 #[inline(always)]
 pub(crate) fn marks_in_walk<'a, F>(
     search: &Search<'a, F>,
@@ -137,8 +142,9 @@ fn marks_at_place<'a, F>(search: &Search<'a, F>, place: usize) -> &'a [u16]
     &marks[start..start + count]
 }
 
-/// The marks of the donor of a slot at the first fields. In the walk by the first numerical field these stand one donor after the
-/// other, so that little memory is read.
+/// The marks at the first eight fields, or all where there are fewer, of `donor`, which is that of the slot
+/// at this place. In the walk by the first numerical field these stand one donor after the other, so that
+/// little memory is read.
 #[inline(always)]
 pub(crate) fn first_marks_in_walk<'a, F>(
     search: &Search<'a, F>,
@@ -159,7 +165,8 @@ pub(crate) fn first_marks_in_walk<'a, F>(
     }
 }
 
-// The marks at the first fields of the donor at a place of the walk by the first numerical field.
+// The marks at the first eight fields of the donor at a place of the walk by the first numerical field. It
+// is all marks where there are fewer fields.
 #[inline(always)]
 fn first_marks_at_place<'a, F>(search: &Search<'a, F>, place: usize) -> &'a [u16]
     requires deck { IsDeckOf (yardsticks_in search.now) search.now.sheet.now.rows search.now.deck.now }
@@ -173,7 +180,7 @@ fn first_marks_at_place<'a, F>(search: &Search<'a, F>, place: usize) -> &'a [u16
     &marks[start..start + count]
 }
 
-// How many fields are looked at first.
+// How many fields are looked at first: eight, or all where there are fewer.
 #[inline(always)]
 fn first_count<F>(search: &Search<F>) -> usize
     ensures { result ≡ min first_fields (length (yardsticks_in search.now)) }
@@ -181,7 +188,8 @@ fn first_count<F>(search: &Search<F>) -> usize
     FIRST.min(search.measure.yardsticks.count() as usize)
 }
 
-/// The ranges of the marks of a block of donors in the walk by the first numerical field.
+/// The ranges of the marks of a block of donors in the walk by the first numerical field, one for each field
+/// in declared order. `block` is the number of a whole block, from 0.
 #[inline(always)]
 pub(crate) fn block_at<'a, F>(search: &Search<'a, F>, block: usize) -> &'a [MarkRange]
     requires deck { IsDeckOf (yardsticks_in search.now) search.now.sheet.now.rows search.now.deck.now }

@@ -1,3 +1,5 @@
+//! A donor in the order of a field's buckets.
+
 /// A donor with its bucket at a field, counted from the lowest that a number can have.
 #[derive(Clone, Copy, Debug, PartialEq, Eq)]
 pub struct Slot {

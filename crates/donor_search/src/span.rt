@@ -1,4 +1,6 @@
-//! The part of the slots of a field that was walked over.
+//! The part of the slots of a field that was walked over. It grows by one place at either end, or by donors
+//! that are passed over. In contracts, `IsSpan` says that the slots below are of buckets up to the record's,
+//! and those above of buckets from it on. `IsNext` says that no place outside has a nearer bucket.
 ghost use Rattle.std.specs.Prelude.{◌≡◌, ◌⊎◌, ◌+◌, ◌-◌, ◌<◌, ◌≤◌, ◌^◌, length};
 ghost use Rattle.std.specs.List.Sorted.{IsNonDecreasingBy};
 ghost use Rattle.donor_search.specs.declared.slot.Slot.{Slot as AnySlot};
@@ -14,7 +16,8 @@ pub(crate) struct Span {
 }
 
 impl Span {
-    /// No slot, at the place of the bucket.
+    /// The empty span at the bucket's place, where a walk begins. All slots before it have lower buckets,
+    /// and all others this one or a greater one.
     pub fn at(slots: &[Slot], bucket: u128) -> Span
         requires { IsNonDecreasingBy (λ (s : AnySlot). s.bucket) slots.now }
         ensures span { IsSpan slots.now bucket result }
@@ -35,7 +38,8 @@ impl Span {
         self.high - self.low
     }
 
-    /// The place beside it of which the bucket is nearest.
+    /// The place next to the span of which the bucket is nearest to this one; the lower place where both
+    /// are as near. Some slot is still outside the span.
     pub fn next(self, slots: &[Slot], bucket: u128) -> usize
         requires order { IsNonDecreasingBy (λ (s : AnySlot). s.bucket) slots.now }
         requires span { IsSpan slots.now bucket self }
@@ -57,7 +61,7 @@ impl Span {
         }
     }
 
-    /// The span with a place beside it.
+    /// The span and the place, which is next to it.
     pub fn with(self, place: usize) -> Span
         requires beside { (place + 1 ≡ self.low) ⊎ (place ≡ self.high) }
         requires fits { place + 1 < 2 ^ 64 }

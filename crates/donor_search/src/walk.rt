@@ -1,4 +1,6 @@
-//! The walk over the donors outward from a record's bucket.
+//! The walk over the donors of a deck, outward from a record's bucket at the index field. In contracts,
+//! `IsSearch`, `IsProfile` and `IsAxis` say that the arguments are those of one record and its deck.
+//! `AreRanked` says that the candidates are those of the ranking, and `most_in` is the most that it measures.
 ghost use Rattle.std.specs.Prelude.{◌≡◌, ◌+◌, ◌≤◌, IfOk, Some, length};
 ghost use Rattle.donor_search.specs.Asked.{index_field};
 ghost use Rattle.donor_search.specs.inner.Profiles.{IsProfile};
@@ -16,9 +18,9 @@ use foundation::{OutOfMemory, Steps};
 use std::alloc::Global;
 use std::sync::ledger::Ledger;
 
-/// The nearest donors, found from the record's bucket at a field outward. Where the next ones are farther than the last of `near`, as
-/// their marks tell, they are passed over together. The walk ends where the gap of buckets alone is more
-/// than the distance of the last of `near`.
+/// The nearest donors, found from the record's bucket at the index field outward. When as many were found
+/// as are asked for, no donor counts that is farther than the last of these. Donors of which their marks
+/// tell it are passed over together. The walk ends where the gap of buckets alone tells it.
 pub(crate) fn walk<F: Fn(u32, &Value, &Value) -> u64, L: Ledger>(
     alloc: Global,
     search: &Search<F>,

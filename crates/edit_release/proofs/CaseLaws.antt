@@ -27,7 +27,8 @@ rule-case survey row formed is = record {
     lines_are = refl;
     are_lines =
         all-reduced IsLine (base_lines edits) (reduce_derived (base_lines edits)) refl
-        (subst (λ (lines : List LineParts). All IsLine lines) (sym (base-plain edits)) (taken-all IsLine (normal_lines_of survey) (rule_flags survey) (normal-lines survey formed)));
+        (subst (λ (lines : List LineParts). All IsLine lines) (sym (base-plain edits)) (taken-all IsLine (normal_lines_of survey) (rule_flags survey)
+        (normal-lines survey formed)));
   };
 }
   where

@@ -1,4 +1,5 @@
-use Rattle.std.proofs.Common.{◌≡◌, ◌≢◌, ◌≤◌, ◌<◌, ◌+◌, ◌||◌, ◌∙◌, ℕ, zero, suc, Bool, true, false, nat_eq, List, [], ◌∷◌, All, Option, Some, None, IsSomeAnd, length, map, slice_get, inl, inr, refl, sym, ap, subst, arith}
+use Rattle.std.proofs.Common.{◌≡◌, ◌≢◌, ◌≤◌, ◌<◌, ◌+◌, ◌||◌, ◌∙◌, ℕ, zero, suc, Bool, true, false, nat_eq, List, [], ◌∷◌, All, Option, Some, None, IsSomeAnd}
+use Rattle.std.proofs.Common.{length, map, slice_get, inl, inr, refl, sym, ap, subst, arith}
 use Rattle.std.specs.Prelude.{option_map}
 use Rattle.std.specs.List.{AllByRecursion, IsDistinct, list_any}
 use Rattle.std.proofs.lemmas.Bool.Decides.{Decides-eqb}
@@ -54,18 +55,21 @@ claims-said (Contradictory cert) stop = refl
 -- ---- the numbers of the records that claim
 
 -- the number of each such record is among them
-claimer-in : (i : ℕ) (ends : List RowEnd) (k : ℕ) (end : RowEnd) → slice_get ends k ≡ Some end → end_claims end ≡ true → IsIn (i + k) (places_from end_claims i ends)
+claimer-in : (i : ℕ) (ends : List RowEnd) (k : ℕ) (end : RowEnd) → slice_get ends k ≡ Some end → end_claims end ≡ true
+    → IsIn (i + k) (places_from end_claims i ends)
 claimer-in i [] k end at claims = absurd (cc)
 claimer-in i (first ∷ ends) zero end at claims =
     let own : end_claims first ≡ true = ap end_claims (same-end first end at) ∙ claims in
     let here : i + 0 ≡ i = omega arith in
-    in-left (i + 0) (place_if (end_claims first) i) (places_from end_claims (suc i) ends) (subst (λ (b : Bool). IsIn (i + 0) (place_if b i)) (sym own) (inl here))
+    in-left (i + 0) (place_if (end_claims first) i) (places_from end_claims (suc i) ends) (subst (λ (b : Bool). IsIn (i + 0) (place_if b i)) (sym own)
+    (inl here))
   where
     same-end : (a b : RowEnd) → Some a ≡ Some b → a ≡ b
     same-end a b is = cc
 claimer-in i (first ∷ ends) (suc k) end at claims =
     let next : suc i + k ≡ i + suc k = omega arith in
-    in-right (i + suc k) (place_if (end_claims first) i) (places_from end_claims (suc i) ends) (subst (λ n. IsIn n (places_from end_claims (suc i) ends)) next (claimer-in (suc i) ends k end at claims))
+    in-right (i + suc k) (place_if (end_claims first) i) (places_from end_claims (suc i) ends)
+    (subst (λ n. IsIn n (places_from end_claims (suc i) ends)) next (claimer-in (suc i) ends k end at claims))
 
 in-any : (n : ℕ) (numbers : List ℕ) → IsIn n numbers → list_any (nat_eq n) numbers ≡ true
 in-any n [] there = absurd there
@@ -88,7 +92,8 @@ has-claim history n there none =
 
 -- ---- the claims
 
-module _ (survey : SurveyParts) (terms : Terms) (rows : List (List Value)) (ends : List RowEnd) (history : List Entry) (donations : AreDonations survey rows terms ends history) where
+module _ (survey : SurveyParts) (terms : Terms) (rows : List (List Value)) (ends : List RowEnd) (history : List Entry)
+    (donations : AreDonations survey rows terms ends history) where
   abbrev p : Proof
   p = proof_of survey terms ends history
 
@@ -100,7 +105,8 @@ module _ (survey : SurveyParts) (terms : Terms) (rows : List (List Value)) (ends
   Claims n = (end : RowEnd) × (slice_get ends n ≡ Some end) × (end_claims end ≡ true)
 
   -- a clean row is a donor
-  donors-are : (ranking : List ℕ) → All (λ d. (d < length rows) × (is_clean survey (row_at rows d) ≡ true)) ranking → AllByRecursion (IsDonor survey rows) ranking
+  donors-are : (ranking : List ℕ) → All (λ d. (d < length rows) × (is_clean survey (row_at rows d) ≡ true)) ranking
+      → AllByRecursion (IsDonor survey rows) ranking
   donors-are [] all = tt
   donors-are (d ∷ ranking) all =
       let (below, clean) = all 0 0 (omega arith) in (there rows d below clean, donors-are ranking (λ k e lt. all (suc k) e (omega (arith, lt))))
@@ -112,15 +118,20 @@ module _ (survey : SurveyParts) (terms : Terms) (rows : List (List Value)) (ends
 
   claim-formed : (entry : Entry) → Claims entry.row_no → IsRanked survey rows terms.class_field terms.near ends entry → IsClaim survey rows p entry
   claim-formed entry (end, at, claims) ranked = record {
-    row = subst (λ (o : Option RowProof). IsSomeAnd o (λ s. claims_donor s.outcome ≡ true)) (sym (slice_get-map said ends entry.row_no ∙ ap (option_map said) at)) (said-claims end ∙ claims);
-    few = subst (λ (ds : List ℕ). length ds ≤ terms.near) (sym r.ranked) (ranking-few (yardsticks_of survey.fields) rows donors (row_at rows entry.row_no) r.kept terms.near);
-    once = subst (IsDistinct nat_eq) (sym r.ranked) (ranking_distinct (yardsticks_of survey.fields) rows donors (row_at rows entry.row_no) r.kept terms.near (class-once survey rows terms.class_field class));
-    donors = donors-are entry.ranking (subst (λ (ds : List ℕ). All (λ d. (d < length rows) × (is_clean survey (row_at rows d) ≡ true)) ds) (sym r.ranked) (ranking_all (yardsticks_of survey.fields) (IsCleanRow survey rows) rows donors (row_at rows entry.row_no) r.kept terms.near
+    row = subst (λ (o : Option RowProof). IsSomeAnd o (λ s. claims_donor s.outcome ≡ true))
+        (sym (slice_get-map said ends entry.row_no ∙ ap (option_map said) at)) (said-claims end ∙ claims);
+    few = subst (λ (ds : List ℕ). length ds ≤ terms.near) (sym r.ranked) (ranking-few (yardsticks_of survey.fields) rows donors (row_at rows entry.row_no)
+        r.kept terms.near);
+    once = subst (IsDistinct nat_eq) (sym r.ranked) (ranking_distinct (yardsticks_of survey.fields) rows donors (row_at rows entry.row_no) r.kept terms.near
+        (class-once survey rows terms.class_field class));
+    donors = donors-are entry.ranking (subst (λ (ds : List ℕ). All (λ d. (d < length rows) × (is_clean survey (row_at rows d) ≡ true)) ds) (sym r.ranked)
+        (ranking_all (yardsticks_of survey.fields) (IsCleanRow survey rows) rows donors (row_at rows entry.row_no) r.kept terms.near
         (class-clean survey rows terms.class_field class)));
   }
     where
       r : IsRankingOf survey rows terms.class_field terms.near (row_at rows entry.row_no) (path_found end.proof.outcome) entry.ranking
-      r = subst (λ (o : Option RowEnd). IsSomeAnd o (λ (e : RowEnd). IsRankingOf survey rows terms.class_field terms.near (row_at rows entry.row_no) (path_found e.proof.outcome) entry.ranking)) at ranked
+      r = subst (λ (o : Option RowEnd). IsSomeAnd o (λ (e : RowEnd). IsRankingOf survey rows terms.class_field terms.near (row_at rows entry.row_no)
+          (path_found e.proof.outcome) entry.ranking)) at ranked
 
       class : ℕ
       class = class_kept (class_count survey.fields terms.class_field) terms.class_field (row_at rows entry.row_no) r.kept
@@ -128,9 +139,11 @@ module _ (survey : SurveyParts) (terms : Terms) (rows : List (List Value)) (ends
       donors : List ℕ
       donors = donors_in survey rows terms.class_field class
 
-  all-formed : (claims : List Entry) → All Claims (map (λ (entry : Entry). entry.row_no) claims) → AllByRecursion (IsRanked survey rows terms.class_field terms.near ends) claims → AllByRecursion (IsClaim survey rows p) claims
+  all-formed : (claims : List Entry) → All Claims (map (λ (entry : Entry). entry.row_no) claims)
+      → AllByRecursion (IsRanked survey rows terms.class_field terms.near ends) claims → AllByRecursion (IsClaim survey rows p) claims
   all-formed [] claim ranked = tt
-  all-formed (entry ∷ claims) claim ranked = (claim-formed entry (claim 0 0 (omega arith)) ranked.0, all-formed claims (λ k d lt. claim (suc k) d (omega (arith, lt))) ranked.1)
+  all-formed (entry ∷ claims) claim ranked =
+      (claim-formed entry (claim 0 0 (omega arith)) ranked.0, all-formed claims (λ k d lt. claim (suc k) d (omega (arith, lt))) ranked.1)
 
   all-claim : AllClaim p
   all-claim i s at claims =
@@ -138,7 +151,8 @@ module _ (survey : SurveyParts) (terms : Terms) (rows : List (List Value)) (ends
       let own : i ≡ 0 + i = omega arith in
       let claims_here : end_claims end ≡ true = sym (said-claims end) ∙ ap (λ (t : RowProof). claims_donor t.outcome) (sym same) ∙ claims in
       let claimer = subst (λ n. IsIn n (claimers_of ends)) (sym own) (claimer-in 0 ends i end there claims_here) in
-      has-claim history i (in-other-order (rows_claimed history) (claimers_of ends) i (IsPermutation-sym (claimers_of ends) (rows_claimed history) donations.claimers) claimer)
+      has-claim history i (in-other-order (rows_claimed history) (claimers_of ends) i (IsPermutation-sym (claimers_of ends) (rows_claimed history)
+      donations.claimers) claimer)
 
   all-claimers : All Claims (claimers_of ends)
   all-claimers = each-place end_claims Claims 0 ends (λ k end at claims. let own : k ≡ 0 + k = omega arith in subst Claims own (end, at, claims))

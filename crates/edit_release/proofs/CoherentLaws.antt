@@ -1,4 +1,5 @@
-use Rattle.std.proofs.Common.{◌≡◌, inl, inr, ◌++◌, ◌^◌, unsigned_abs, ℕ, zero, suc, Bool, true, List, [], ◌∷◌, Option, Some, None, Result, Ok, Err, length, slice_get, ℤ, pos, ◌<ℤ◌, int_lt, refl, sym, option_map}
+use Rattle.std.proofs.Common.{◌≡◌, inl, inr, ◌++◌, ◌^◌, unsigned_abs, ℕ, zero, suc, Bool, true, List, [], ◌∷◌, Option, Some, None, Result, Ok, Err, length}
+use Rattle.std.proofs.Common.{slice_get, ℤ, pos, ◌<ℤ◌, int_lt, refl, sym, option_map}
 use Rattle.std.specs.List.{AllByRecursion}
 use Rattle.std.proofs.lemmas.Bool.Decides.{Decides-ltb}
 use Rattle.std.specs.Option.{ok_or}
@@ -47,7 +48,8 @@ use Rattle.donor_search.specs.CleanRows.{row_at}
 -- ---- valid steps
 
 module _ (p : Premises) where
-  combined-coherent : (earlier : List Proved) (a : ℕ) (m : ℤ) (b : ℕ) (n g : ℤ) (x : Proved) → proved_by p earlier (step.Combine a m b n g) ≡ Some x → IsMultiplier m × IsMultiplier n × (pos 0 <ℤ g)
+  combined-coherent : (earlier : List Proved) (a : ℕ) (m : ℤ) (b : ℕ) (n g : ℤ) (x : Proved) → proved_by p earlier (step.Combine a m b n g) ≡ Some x
+      → IsMultiplier m × IsMultiplier n × (pos 0 <ℤ g)
   combined-coherent earlier a m b n g x e =
       let (s, first, after_first) = was-some (as_line (slice_get earlier a)) (λ s. (as_line (slice_get earlier b) >>? (λ t. combined_line m n g s t))) x e in
       let (t, second, made) = was-some (as_line (slice_get earlier b)) (λ t. combined_line m n g s t) x after_first in
@@ -107,8 +109,11 @@ module _ (c : TreeCase) where
 -- ---- what is said of a record
 
 module _ (survey : SurveyParts) (row : List Value) (budget : ℕ) (formed : IsWellFormed survey) (is : IsRow survey.fields row) where
-  coherent-of : (donor : Option (List Value)) (o : Outcome) (stop : Option GiftFault) (gift : Option Gift) → outcome_of (case_of survey (kept_edits survey) row) budget ≡ o → ComesOf survey (kept_edits survey) row donor o stop gift → IsCoherentRow (said_of o stop)
-  coherent-of donor (outcome.Change path zero cert) None gift e follows = (refl, change-clean (case_of survey (kept_edits survey) row) budget path zero cert e refl)
+  coherent-of : (donor : Option (List Value)) (o : Outcome) (stop : Option GiftFault) (gift : Option Gift)
+      → outcome_of (case_of survey (kept_edits survey) row) budget ≡ o → ComesOf survey (kept_edits survey) row donor o stop gift
+      → IsCoherentRow (said_of o stop)
+  coherent-of donor (outcome.Change path zero cert) None gift e follows =
+      (refl, change-clean (case_of survey (kept_edits survey) row) budget path zero cert e refl)
   coherent-of donor (outcome.Change path (suc w) cert) None gift e follows = tree-coherent _ cert.leaves (has-tree survey row budget formed is _ e)
   coherent-of donor (outcome.Change path zero cert) (Some stop) gift e follows = tree-coherent _ cert.leaves (has-tree survey row budget formed is _ e)
   coherent-of donor (outcome.Change path (suc w) cert) (Some stop) gift e follows = tree-coherent _ cert.leaves (has-tree survey row budget formed is _ e)

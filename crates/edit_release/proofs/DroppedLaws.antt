@@ -1,5 +1,6 @@
 -- The proof of an edit says of each dropped line of the rules steps that refute its negation.
-use Rattle.std.proofs.Common.{◌≡◌, ◌≢◌, ℕ, suc, ◌+◌, Bool, true, false, if◌then◌else◌, List, [], ◌∷◌, Option, Some, None, IfSome, Result, length, map, slice_get, refl, ap, ◌∙◌, subst, arith}
+use Rattle.std.proofs.Common.{◌≡◌, ◌≢◌, ℕ, suc, ◌+◌, Bool, true, false, if◌then◌else◌, List, [], ◌∷◌, Option, Some, None, IfSome, Result, length, map}
+use Rattle.std.proofs.Common.{slice_get, refl, ap, ◌∙◌, subst, arith}
 use Rattle.std.specs.Prelude.{option_map}
 use Rattle.std.specs.List.{AllByRecursion}
 use Rattle.edit_model.specs.Parts.{SurveyParts}
@@ -52,21 +53,26 @@ neither (Some n) lines next none later = absurd (cc)
 
 module _ (survey : SurveyParts) (kept : List Bool) where
   -- what is said of a line has no fault
-  own-fault : (place : ℕ) (line : LineParts) (verdict : Verdict) → ((steps : List Step) → verdict ≡ Dropped steps → IsDropped (refutation_at survey kept place line) line steps)
+  own-fault : (place : ℕ) (line : LineParts) (verdict : Verdict) → ((steps : List Step) → verdict ≡ Dropped steps
+      → IsDropped (refutation_at survey kept place line) line steps)
       → verdict_fault (refutation_at survey kept place line) line (refutation_by verdict) ≡ None
   own-fault place line (Kept why) refuted = refl
   own-fault place line (Dropped steps) refuted = no-drop-fault (refutation_at survey kept place line) line steps (refuted steps refl)
 
   -- nor what is said of the lines from a place on
   none-from : (place : ℕ) (lines : List LineParts) (verdicts : List Verdict)
-      → ((k : ℕ) (line : LineParts) (steps : List Step) → slice_get lines k ≡ Some line → slice_get verdicts k ≡ Some (Dropped steps) → IsDropped (refutation_at survey kept (place + k) line) line steps)
+      → ((k : ℕ) (line : LineParts) (steps : List Step) → slice_get lines k ≡ Some line → slice_get verdicts k ≡ Some (Dropped steps)
+      → IsDropped (refutation_at survey kept (place + k) line) line steps)
       → verdicts_fault survey kept place lines (map refutation_by verdicts) ≡ None
   none-from place [] verdicts refuted = refl
   none-from place (line ∷ lines) [] refuted = refl
   none-from place (line ∷ lines) (verdict ∷ verdicts) refuted =
-      neither (verdict_fault (refutation_at survey kept place line) line (refutation_by verdict)) (length (verdict_lines (refutation_by verdict))) (verdicts_fault survey kept (suc place) lines (map refutation_by verdicts))
-      (own-fault place line verdict (λ steps is. subst (λ n. IsDropped (refutation_at survey kept n line) line steps) (here place) (refuted 0 line steps refl (ap (λ (v : Verdict). Some v) is))))
-      (none-from (suc place) lines verdicts (λ k l steps at told. subst (λ n. IsDropped (refutation_at survey kept n l) l steps) (later place k) (refuted (suc k) l steps at told)))
+      neither (verdict_fault (refutation_at survey kept place line) line (refutation_by verdict)) (length (verdict_lines (refutation_by verdict)))
+      (verdicts_fault survey kept (suc place) lines (map refutation_by verdicts))
+      (own-fault place line verdict (λ steps is. subst (λ n. IsDropped (refutation_at survey kept n line) line steps) (here place)
+      (refuted 0 line steps refl (ap (λ (v : Verdict). Some v) is))))
+      (none-from (suc place) lines verdicts (λ k l steps at told. subst (λ n. IsDropped (refutation_at survey kept n l) l steps) (later place k)
+      (refuted (suc k) l steps at told)))
     where
       here : (n : ℕ) → n + 0 ≡ n
       here n = omega arith
@@ -78,8 +84,10 @@ module _ (survey : SurveyParts) (kept : List Bool) where
 pub none-faulty : (survey : SurveyParts) (formed : IsWellFormed survey) (terms : Terms) (ends : List RowEnd) (history : List Entry)
     → drop_fault survey (proof_of survey terms ends history) ≡ None
 none-faulty survey formed terms ends history =
-    ap (λ (kept : List Bool). option_map (λ offset. 4 + offset) (verdicts_fault survey kept 0 (normal_lines_of survey) (map refutation_by (rule_verdicts survey)))) (flags-said (rule_verdicts survey))
-    ∙ ap (λ (fault : Option ℕ). option_map (λ offset. 4 + offset) fault) (none-from survey (rule_flags survey) 0 (normal_lines_of survey) (rule_verdicts survey) (λ place line steps at told.
+    ap (λ (kept : List Bool). option_map (λ offset. 4 + offset) (verdicts_fault survey kept 0 (normal_lines_of survey)
+    (map refutation_by (rule_verdicts survey)))) (flags-said (rule_verdicts survey))
+    ∙ ap (λ (fault : Option ℕ). option_map (λ offset. 4 + offset) fault) (none-from survey (rule_flags survey) 0 (normal_lines_of survey) (rule_verdicts survey)
+    (λ place line steps at told.
     subst (λ n. IsDropped (refutation_at survey (rule_flags survey) n line) line steps) (first place) (rule-refuted survey formed place line steps at told)))
   where
     first : (n : ℕ) → n ≡ 0 + n
@@ -94,11 +102,14 @@ coherent-steps : (lines : List LineParts) (verdicts : List Verdict) → length v
 coherent-steps lines [] same positive = tt
 coherent-steps [] (verdict ∷ verdicts) same positive = absurd (omega arith)
 coherent-steps (line ∷ lines) (Kept why ∷ verdicts) same positive = (tt, coherent-steps lines verdicts (omega arith) (λ k. positive (suc k)))
-coherent-steps (line ∷ lines) (Dropped steps ∷ verdicts) same positive = (positive 0 line steps refl refl, coherent-steps lines verdicts (omega arith) (λ k. positive (suc k)))
+coherent-steps (line ∷ lines) (Dropped steps ∷ verdicts) same positive =
+    (positive 0 line steps refl refl, coherent-steps lines verdicts (omega arith) (λ k. positive (suc k)))
 
 -- what is said of the lines of the rules is coherent
-pub verdicts-coherent : (survey : SurveyParts) → IsWellFormed survey → AllByRecursion (λ v. IfSome v AreCoherentSteps) (map refutation_by (rule_verdicts survey))
+pub verdicts-coherent : (survey : SurveyParts) → IsWellFormed survey → AllByRecursion (λ v. IfSome v AreCoherentSteps)
+    (map refutation_by (rule_verdicts survey))
 verdicts-coherent survey formed =
-    coherent-steps (normal_lines_of survey) (rule_verdicts survey) (verdicts-count survey (normal_lines_of survey) pruning_budget 0 (normal_lines_of survey)) (λ place line steps at told.
+    coherent-steps (normal_lines_of survey) (rule_verdicts survey) (verdicts-count survey (normal_lines_of survey) pruning_budget 0 (normal_lines_of survey))
+    (λ place line steps at told.
     let (apart, refutes) = rule-refuted survey formed place line steps at told in
     let (x, valid, wrong) = refutes in valid-coherent (refutation_at survey (rule_flags survey) place line) steps x valid)

@@ -1,5 +1,6 @@
 -- The values of a record that was given values: their texts stand for them, and where the record is changed they are others.
-use Rattle.std.proofs.Common.{◌≡◌, ◌≢◌, ◌∙◌, sym, ap, refl, ℕ, zero, suc, ◌+◌, ◌<◌, ◌≤◌, ◌==◌, ◌||◌, ◌⊎◌, inl, inr, not, Bool, true, false, if◌then◌else◌, List, [], ◌∷◌, length, map, get_or, slice_get, All, Some, subst, ℤ, pos, ◌*ℤ◌, ◌<ℤ◌, arith}
+use Rattle.std.proofs.Common.{◌≡◌, ◌≢◌, ◌∙◌, sym, ap, refl, ℕ, zero, suc, ◌+◌, ◌<◌, ◌≤◌, ◌==◌, ◌||◌, ◌⊎◌, inl, inr, not, Bool, true, false, if◌then◌else◌, List}
+use Rattle.std.proofs.Common.{[], ◌∷◌, length, map, get_or, slice_get, All, Some, subst, ℤ, pos, ◌*ℤ◌, ◌<ℤ◌, arith}
 use Rattle.std.specs.Str.{bytes_eq}
 use Rattle.std.proofs.lemmas.Bool.{cases_lt, ne_eqb}
 use Rattle.std.proofs.lemmas.Bool.Decides.{Decides-int_eq}
@@ -40,13 +41,15 @@ given-text (kind.Number scale) Bad is fits held = absurd (held refl)
 given-text (kind.Code codes) (Number x) is fits held = absurd fits
 given-text (kind.Code codes) (Code c) is fits held =
     found-first (λ code. bytes_eq code (get_or codes c [])) codes c [] fits
-    (λ k earlier. false_unless (bytes_eq (get_or codes k []) (get_or codes c [])) (λ same. is.3 k c [] earlier fits ((bytes_eq-Decides (get_or codes k []) (get_or codes c [])).0 same)))
+    (λ k earlier. false_unless (bytes_eq (get_or codes k []) (get_or codes c []))
+    (λ same. is.3 k c [] earlier fits ((bytes_eq-Decides (get_or codes k []) (get_or codes c [])).0 same)))
     ((bytes_eq-Decides (get_or codes c []) (get_or codes c [])).1 refl)
 given-text (kind.Code codes) Bad is fits held = absurd (held refl)
 
 same-number : (pn pd xn xd yn yd : ℤ) → pos 0 <ℤ xd → pn *ℤ xd ≡ xn *ℤ pd → xn *ℤ yd ≡ yn *ℤ xd → pn *ℤ yd ≡ yn *ℤ pd
 same-number pn pd xn xd yn yd above first second =
-    same_cancel (pn *ℤ yd) (yn *ℤ pd) xd above (swap_last pn yd xd ∙ ap (λ (k : ℤ). k *ℤ yd) first ∙ swap_last xn pd yd ∙ ap (λ (k : ℤ). k *ℤ pd) second ∙ swap_last yn xd pd)
+    same_cancel (pn *ℤ yd) (yn *ℤ pd) xd above (swap_last pn yd xd ∙ ap (λ (k : ℤ). k *ℤ yd) first ∙ swap_last xn pd yd ∙ ap (λ (k : ℤ). k *ℤ pd) second
+    ∙ swap_last yn xd pd)
 
 was-true : (b : Bool) → not b ≡ false → b ≡ true
 was-true true is = refl
@@ -70,7 +73,8 @@ other-value Bad read p f differs agrees = absurd (cc)
 
 -- what is told of the value at each field
 pub values-from : (told : ℕ → Bool) (text : ℕ → List ℕ) (i : ℕ) (fields : List Field) (row new : List Value) → IsRow fields row → IsRow fields new
-    → ((k : ℕ) (field : Field) → slice_get fields k ≡ Some field → IsValueOf (told (i + k)) field.kind (text (i + k)) (value_of row k) (value_of new k)) → AreValuesFrom told text i fields row new
+    → ((k : ℕ) (field : Field) → slice_get fields k ≡ Some field → IsValueOf (told (i + k)) field.kind (text (i + k)) (value_of row k) (value_of new k))
+    → AreValuesFrom told text i fields row new
 values-from told text i [] [] [] is_row is_new each = tt
 values-from told text i [] [] (w ∷ new) is_row is_new each = absurd is_new
 values-from told text i [] (v ∷ row) new is_row is_new each = absurd is_row
@@ -96,20 +100,25 @@ field-ordered fields f below = by (has_field (code_fields (shape_of fields)) f) 
     some : (has_field (code_fields (shape_of fields)) f || has_field (number_fields (shape_of fields)) f) ≡ true
     some =
         let own : 0 + f ≡ f = omega arith in
-        ap (λ n. has_field (code_fields (shape_of fields)) n || has_field (number_fields (shape_of fields)) n) (sym own) ∙ field-either 0 f (shape_of fields) (omega (arith, below, length-map fields (λ (field : Field). domain_of field.kind)))
+        ap (λ n. has_field (code_fields (shape_of fields)) n || has_field (number_fields (shape_of fields)) n) (sym own)
+        ∙ field-either 0 f (shape_of fields) (omega (arith, below, length-map fields (λ (field : Field). domain_of field.kind)))
 
-    by : (b : Bool) → has_field (code_fields (shape_of fields)) f ≡ b → (b || has_field (number_fields (shape_of fields)) f) ≡ true → has_field (path_order fields) f ≡ true
+    by : (b : Bool) → has_field (code_fields (shape_of fields)) f ≡ b → (b || has_field (number_fields (shape_of fields)) f) ≡ true
+        → has_field (path_order fields) f ≡ true
     by true is h = code-field alone f is
     by false is h = number-field alone f h
 
 -- a change that weighs nothing changes no field
-lighter : (i : ℕ) (fields : List Field) (row : List Value) (p : Point) → All IsField fields → IsRow fields row → weight_from i fields row p ≡ 0 → (k : ℕ) → k < length fields → differs_from (value_of row k) p (i + k) ≡ false
+lighter : (i : ℕ) (fields : List Field) (row : List Value) (p : Point) → All IsField fields → IsRow fields row → weight_from i fields row p ≡ 0 → (k : ℕ)
+    → k < length fields → differs_from (value_of row k) p (i + k) ≡ false
 lighter i [] row p are is_row none k below = absurd (omega arith)
 lighter i (field ∷ fields) [] p are is_row none k below = absurd is_row
-lighter i (field ∷ fields) (v ∷ row) p are is_row none k below = by (differs_from v p i) refl none k below (λ rest n within. lighter (suc i) fields row p (All-tail IsField field fields are) is_row.1 rest n within)
+lighter i (field ∷ fields) (v ∷ row) p are is_row none k below = by (differs_from v p i) refl none k below
+    (λ rest n within. lighter (suc i) fields row p (All-tail IsField field fields are) is_row.1 rest n within)
   where
     by : (b : Bool) → differs_from v p i ≡ b → (if b then field.weight else 0) + weight_from (suc i) fields row p ≡ 0 → (k : ℕ) → k < length (field ∷ fields)
-        → (weight_from (suc i) fields row p ≡ 0 → (n : ℕ) → n < length fields → differs_from (value_of row n) p (suc i + n) ≡ false) → differs_from (value_of (v ∷ row) k) p (i + k) ≡ false
+        → (weight_from (suc i) fields row p ≡ 0 → (n : ℕ) → n < length fields → differs_from (value_of row n) p (suc i + n) ≡ false)
+        → differs_from (value_of (v ∷ row) k) p (i + k) ≡ false
     by true is none k below later = let some = (All-head IsField field fields are).weight.0 in absurd (omega (arith, some))
     by false is none zero below later =
         let own : i + 0 ≡ i = omega arith in
@@ -118,7 +127,8 @@ lighter i (field ∷ fields) (v ∷ row) p are is_row none k below = by (differs
         let next : i + suc k ≡ suc i + k = omega arith in
         ap (λ n. differs_from (value_of row k) p n) next ∙ later (omega arith) k (omega arith)
 
-pub none-differs : (survey : SurveyParts) (row : List Value) (p : Point) → All IsField survey.fields → IsRow survey.fields row → change_weight survey row p ≡ 0 → (f : ℕ) → changes survey.fields (word_of survey row p) f ≡ false
+pub none-differs : (survey : SurveyParts) (row : List Value) (p : Point) → All IsField survey.fields → IsRow survey.fields row → change_weight survey row p ≡ 0
+    → (f : ℕ) → changes survey.fields (word_of survey row p) f ≡ false
 none-differs survey row p are is_row none f = by (cases_lt place (length (path_order survey.fields)))
   where
     differs : ℕ → Bool

@@ -1,4 +1,5 @@
-use Rattle.std.proofs.Common.{◌≡◌, ◌≤◌, ◌+◌, ◌++◌, not, nat_lt, ℕ, zero, suc, Bool, true, false, if◌then◌else◌, List, [], ◌∷◌, Some, None, refl, sym, ap, ◌∙◌, arith}
+use Rattle.std.proofs.Common.{◌≡◌, ◌≤◌, ◌+◌, ◌++◌, not, nat_lt, ℕ, zero, suc, Bool, true, false, if◌then◌else◌, List, [], ◌∷◌, Some, None, refl, sym, ap, ◌∙◌}
+use Rattle.std.proofs.Common.{arith}
 use Rattle.std.proofs.lemmas.Bool.Decides.{Decides-eqb, nat_tests}
 use Rattle.std.proofs.lemmas.List.Sums.{sum_by-append, sum_by-cons}
 use Rattle.std.specs.Option.{unwrap_or}
@@ -49,7 +50,8 @@ module _ (c : SearchCase) (budget : ℕ) where
   work-more : (taken : List (List Bool)) (path : List Bool) → work_of_all c (taken ++ path ∷ []) ≡ work_of_all c taken + work_of c path
   work-more taken path = sum_by-append (work_of c) taken (path ∷ []) ∙ ap (λ n. work_of_all c taken + n) (sum_by-cons (work_of c) path [] ∙ omega arith)
 
-  work-from : (taken paths : List (List Bool)) (path : List Bool) (work : ℕ) → work_of_all c taken ≤ budget → outcome_from c budget taken paths ≡ outcome.Budget path work → work ≤ budget
+  work-from : (taken paths : List (List Bool)) (path : List Bool) (work : ℕ) → work_of_all c taken ≤ budget → outcome_from c budget taken paths
+      ≡ outcome.Budget path work → work ≤ budget
   work-from taken [] q work within e = absurd (cc)
   work-from taken (path ∷ paths) q work within e =
       by (nat_lt budget (work_of_all c taken + work_of c path)) refl (state_of c path) (λ more. work-from (taken ++ path ∷ []) paths q work more) e
@@ -59,13 +61,16 @@ module _ (c : SearchCase) (budget : ℕ) where
 
       by : (over : Bool) → nat_lt budget (work_of_all c taken + work_of c path) ≡ over → (s : PathState)
           → (work_of_all c (taken ++ path ∷ []) ≤ budget → outcome_from c budget (taken ++ path ∷ []) paths ≡ outcome.Budget q work → work ≤ budget)
-          → (unwrap_or (if over then Some (outcome.Budget path (work_of_all c taken)) else end_by c taken path s) (outcome_from c budget (taken ++ path ∷ []) paths)) ≡ outcome.Budget q work → work ≤ budget
+          → (unwrap_or (if over then Some (outcome.Budget path (work_of_all c taken)) else end_by c taken path s)
+          (outcome_from c budget (taken ++ path ∷ []) paths)) ≡ outcome.Budget q work → work ≤ budget
       by true over s rest h = let same : work_of_all c taken ≡ work = cc in omega (arith, within, same)
       by false below (Overflows event) rest h = absurd (cc)
       by false below Open rest h = at (is_complete c path) (rest (more below)) h
         where
           at : (full : Bool) → (outcome_from c budget (taken ++ path ∷ []) paths ≡ outcome.Budget q work → work ≤ budget)
-              → (unwrap_or (if full then Some (outcome.Change path (path_weight c.survey.fields path) (record { leaves = certificate_of c (if nat_lt 0 (path_weight c.survey.fields path) then taken else []) })) else None) (outcome_from c budget (taken ++ path ∷ []) paths)) ≡ outcome.Budget q work
+              → (unwrap_or (if full then Some (outcome.Change path (path_weight c.survey.fields path)
+              (record { leaves = certificate_of c (if nat_lt 0 (path_weight c.survey.fields path) then taken else []) })) else None)
+              (outcome_from c budget (taken ++ path ∷ []) paths)) ≡ outcome.Budget q work
               → work ≤ budget
           at true rest h = absurd (cc)
           at false rest h = rest h

@@ -15,7 +15,8 @@ use Rattle.record_text.specs.Trimming.{header_of, without_marks}
 
 -- ---- a header has no byte order mark at its front
 
-by_mark : (a b c : ℕ) (rest : List ℕ) (mark : Bool) → is_bom a b c ≡ mark → without_marks (without_marks rest) ≡ without_marks rest → without_marks (without_marks (a ∷ b ∷ c ∷ rest)) ≡ without_marks (a ∷ b ∷ c ∷ rest)
+by_mark : (a b c : ℕ) (rest : List ℕ) (mark : Bool) → is_bom a b c ≡ mark → without_marks (without_marks rest) ≡ without_marks rest
+    → without_marks (without_marks (a ∷ b ∷ c ∷ rest)) ≡ without_marks (a ∷ b ∷ c ∷ rest)
 by_mark a b c rest true is later = rw is later
 by_mark a b c rest false is later = rw (is, is) refl
 
@@ -90,7 +91,8 @@ behind_first (text ∷ texts) tail = record { first = 44; rest = _; is = refl; s
 
 stripped_plain : (a : ℕ) (text tail : List ℕ) → without_marks (a ∷ text) ≡ a ∷ text → Behind tail → strip_bom ((a ∷ text) ++ tail) ≡ (a ∷ text) ++ tail
 stripped_plain a [] tail kept behind = rw behind.is (stripped_second a behind.first behind.rest behind.second)
-stripped_plain a (b ∷ []) tail kept behind = rw behind.is (stripped_if_none a b behind.first behind.rest (third_differs (a == 0xEF) (b == 0xBB) (behind.first == 0xBF) behind.third))
+stripped_plain a (b ∷ []) tail kept behind =
+    rw behind.is (stripped_if_none a b behind.first behind.rest (third_differs (a == 0xEF) (b == 0xBB) (behind.first == 0xBF) behind.third))
 stripped_plain a (b ∷ c ∷ rest) tail kept behind = stripped_if_none a b c (rest ++ tail) (no_mark a b c rest (is_bom a b c) refl kept)
 
 row_opened : (text : List ℕ) (texts : List (List ℕ)) (tail : List ℕ) → is_blank default_writer (text ∷ texts) ≡ false
@@ -98,21 +100,25 @@ row_opened : (text : List ℕ) (texts : List (List ℕ)) (tail : List ℕ) → i
 row_opened text texts tail shown = rw shown (append_assoc (field_text default_writer text ++ fields_text default_writer texts) (10 ∷ []) tail
     ∙ append_assoc (field_text default_writer text) (fields_text default_writer texts) (10 ∷ tail))
 
-by_quotes : (a : ℕ) (text : List ℕ) (texts : List (List ℕ)) (tail : List ℕ) (quotes : Bool) → needs_quotes default_writer (a ∷ text) ≡ quotes → without_marks (a ∷ text) ≡ a ∷ text
-    → strip_bom (field_text default_writer (a ∷ text) ++ (fields_text default_writer texts ++ 10 ∷ tail)) ≡ field_text default_writer (a ∷ text) ++ (fields_text default_writer texts ++ 10 ∷ tail)
+by_quotes : (a : ℕ) (text : List ℕ) (texts : List (List ℕ)) (tail : List ℕ) (quotes : Bool) → needs_quotes default_writer (a ∷ text) ≡ quotes
+    → without_marks (a ∷ text) ≡ a ∷ text
+    → strip_bom (field_text default_writer (a ∷ text) ++ (fields_text default_writer texts ++ 10 ∷ tail)) ≡ field_text default_writer (a ∷ text)
+    ++ (fields_text default_writer texts ++ 10 ∷ tail)
 by_quotes a text texts tail true needs kept = rw needs (stripped_first 34 _ refl)
 by_quotes a text texts tail false needs kept = rw needs (stripped_plain a text (fields_text default_writer texts ++ 10 ∷ tail) kept (behind_first texts tail))
 
 some_bytes : (b : ℕ) (bs : List ℕ) → (length (b ∷ bs) == 0) ≡ false
 some_bytes b bs = grind (arith, nat_tests)
 
-shows_byte : (a : ℕ) (text : List ℕ) (texts : List (List ℕ)) (quotes : Bool) → needs_quotes default_writer (a ∷ text) ≡ quotes → is_blank default_writer ((a ∷ text) ∷ texts) ≡ false
+shows_byte : (a : ℕ) (text : List ℕ) (texts : List (List ℕ)) (quotes : Bool) → needs_quotes default_writer (a ∷ text) ≡ quotes
+    → is_blank default_writer ((a ∷ text) ∷ texts) ≡ false
 unfolding is_blank
 shows_byte a text [] true needs = rw needs (some_bytes 34 _)
 shows_byte a text [] false needs = rw needs (some_bytes a text)
 shows_byte a text (next ∷ texts) quotes needs = refl
 
-stripped_header : (header : List (List ℕ)) (tail : List ℕ) → 1 ≤ length header → header_of header ≡ header → strip_bom (row_text default_writer header ++ tail) ≡ row_text default_writer header ++ tail
+stripped_header : (header : List (List ℕ)) (tail : List ℕ) → 1 ≤ length header → header_of header ≡ header → strip_bom (row_text default_writer header ++ tail)
+    ≡ row_text default_writer header ++ tail
 unfolding is_blank fields_text
 stripped_header [] tail some kept = absurd (omega arith)
 stripped_header ([] ∷ []) tail some kept = stripped_first 34 _ refl
@@ -132,17 +138,24 @@ some_back : (texts : List (List ℕ)) → 1 ≤ length texts → texts ≡ read_
 some_back [] some = absurd (omega arith)
 some_back (text ∷ texts) some = refl
 
-records_read : (width : ℕ) (rows : List (List (List ℕ))) → 1 ≤ width → AllByRecursion (λ (row : List (List ℕ)). length row ≡ width) rows → AreRecords default_config st.StartRecord (records_text rows) rows
+records_read : (width : ℕ) (rows : List (List (List ℕ))) → 1 ≤ width → AllByRecursion (λ (row : List (List ℕ)). length row ≡ width) rows
+    → AreRecords default_config st.StartRecord (records_text rows) rows
 unfolding Reached
 records_read width [] some long = (st.StartRecord, [], (refl, refl), none_left)
 records_read width (row ∷ rows) some long =
-    let (last, left, reached, ended) = records_read width rows some long.1 in
-    (last, left, ((read_back row, st.StartRecord, records_text rows), read-write row (records_text rows), some_back row (omega (arith, long.0)), reached), ended)
+    let (last, left, reached, ended) = records_read width rows some long.1 in (
+      last,
+      left,
+      ((read_back row, st.StartRecord, records_text rows), read-write row (records_text rows), some_back row (omega (arith, long.0)), reached),
+      ended,
+    )
 
 -- what is written is read back
-pub written-read : (header : List (List ℕ)) (rows : List (List (List ℕ))) → 1 ≤ length header → header_of header ≡ header → AllByRecursion (λ (row : List (List ℕ)). length row ≡ length header) rows
+pub written-read : (header : List (List ℕ)) (rows : List (List (List ℕ))) → 1 ≤ length header → header_of header ≡ header
+    → AllByRecursion (λ (row : List (List ℕ)). length row ≡ length header) rows
     → AreRecordsOf (records_text (header ∷ rows)) (header ∷ rows)
 written-read header rows some kept long =
     let once : strip_bom (records_text (header ∷ rows)) ≡ records_text (header ∷ rows) = stripped_header header (records_text rows) some kept in
     let twice : strip_bom (strip_bom (records_text (header ∷ rows))) ≡ records_text (header ∷ rows) = ap strip_bom once ∙ once in
-    subst (λ (text : List ℕ). AreRecords default_config st.StartRecord text (header ∷ rows)) (sym twice) (records_read (length header) (header ∷ rows) some (refl, long))
+    subst (λ (text : List ℕ). AreRecords default_config st.StartRecord text (header ∷ rows)) (sym twice)
+    (records_read (length header) (header ∷ rows) some (refl, long))

@@ -1,5 +1,6 @@
 -- The files of an edit are a valid release.
-use Rattle.std.proofs.Common.{◌≡◌, ◌<◌, ◌∙◌, sym, ap, refl, ℕ, ◌==◌, true, List, [], ◌∷◌, length, map, All, IfSome, IsSome, IsTrue, ◌↔◌, Option, Some, None, inl, subst, option_map}
+use Rattle.std.proofs.Common.{◌≡◌, ◌<◌, ◌∙◌, sym, ap, refl, ℕ, ◌==◌, true, List, [], ◌∷◌, length, map, All, IfSome, IsSome, IsTrue, ◌↔◌, Option, Some, None}
+use Rattle.std.proofs.Common.{inl, subst, option_map}
 use Rattle.std.specs.Prelude.{is_some}
 use Rattle.std.specs.List.{AllByRecursion, AllZip}
 use Rattle.std.proofs.lemmas.Bool.{le-leb}
@@ -62,7 +63,8 @@ use Rattle.edit_release.proofs.ClaimLaws.{claims-valid}
 counts-agree : (m n : ℕ) → m ≡ n → (m == n) ≡ true
 counts-agree m n e = (Decides-eqb m n).1 e
 
-module _ (survey : SurveyParts) (sheet : SheetParts) (released proof : List ℕ) (terms : Terms) (ends : List RowEnd) (history : List Entry) (fit : AreTerms terms) (many : length ends ≡ length sheet.rows) where
+module _ (survey : SurveyParts) (sheet : SheetParts) (released proof : List ℕ) (terms : Terms) (ends : List RowEnd) (history : List Entry)
+    (fit : AreTerms terms) (many : length ends ≡ length sheet.rows) where
   abbrev a : Audit
   a = audit_of survey sheet released proof
 
@@ -70,7 +72,14 @@ module _ (survey : SurveyParts) (sheet : SheetParts) (released proof : List ℕ)
   p = proof_of survey terms ends history
 
   limits-fit : limits_fit p ≡ true
-  limits-fit = rw (le-leb 1 terms.limit fit.limit.0, le-leb terms.limit 1000 fit.limit.1, le-leb 1 terms.near fit.near.0, le-leb terms.near 64 fit.near.1, le-leb 1 terms.budget fit.budget.0, le-leb terms.budget 1000000000 fit.budget.1) refl
+  limits-fit = rw (
+    le-leb 1 terms.limit fit.limit.0,
+    le-leb terms.limit 1000 fit.limit.1,
+    le-leb 1 terms.near fit.near.0,
+    le-leb terms.near 64 fit.near.1,
+    le-leb 1 terms.budget fit.budget.0,
+    le-leb terms.budget 1000000000 fit.budget.1,
+  ) refl
 
   verdicts-many : (length p.verdicts == length (normal_lines_of survey)) ≡ true
   verdicts-many = counts-agree _ _ (lines-many survey terms ends history)
@@ -85,28 +94,39 @@ module _ (survey : SurveyParts) (sheet : SheetParts) (released proof : List ℕ)
 
 module _ (survey : SurveyParts) (formed : IsWellFormed survey) (budget : ℕ) (all : List (List Value)) where
   -- the trees of all records are valid
-  pub all-shown : (rows : List (List Value)) (ends : List RowEnd) → AllByRecursion (IsRow survey.fields) rows → AllZip (IsEndOf survey (kept_edits survey) budget all) rows ends → AllZip (λ row (end : RowEnd). HasTree survey (normal_lines_of survey) (rule_flags survey) row end.proof.outcome) rows ends
+  pub all-shown : (rows : List (List Value)) (ends : List RowEnd) → AllByRecursion (IsRow survey.fields) rows
+      → AllZip (IsEndOf survey (kept_edits survey) budget all) rows ends
+      → AllZip (λ row (end : RowEnd). HasTree survey (normal_lines_of survey) (rule_flags survey) row end.proof.outcome) rows ends
   all-shown [] [] are each = tt
   all-shown [] (end ∷ ends) are each = absurd each
   all-shown (row ∷ rows) [] are each = absurd each
   all-shown (row ∷ rows) (end ∷ ends) are each = (tree-shown survey row budget formed are.0 all end each.0, all-shown rows ends are.1 each.1)
 
   -- what is said of all records is coherent
-  all-coherent : (rows : List (List Value)) (ends : List RowEnd) → AllByRecursion (IsRow survey.fields) rows → AllZip (IsEndOf survey (kept_edits survey) budget all) rows ends → AllByRecursion IsCoherentRow (map said ends)
+  all-coherent : (rows : List (List Value)) (ends : List RowEnd) → AllByRecursion (IsRow survey.fields) rows
+      → AllZip (IsEndOf survey (kept_edits survey) budget all) rows ends → AllByRecursion IsCoherentRow (map said ends)
   all-coherent [] [] are each = tt
   all-coherent [] (end ∷ ends) are each = absurd each
   all-coherent (row ∷ rows) [] are each = absurd each
   all-coherent (row ∷ rows) (end ∷ ends) are each = (said-coherent survey row budget formed are.0 all end each.0, all-coherent rows ends are.1 each.1)
 
   -- the proof is coherent
-  pub proof-coherent : (terms : Terms) (history : List Entry) (rows : List (List Value)) (ends : List RowEnd) → AllByRecursion (IsRow survey.fields) rows → AllZip (IsEndOf survey (kept_edits survey) budget all) rows ends → IsCoherent (proof_of survey terms ends history)
-  proof-coherent terms history rows ends are each = record { version = inl refl; table = refl; verdicts = verdicts-coherent survey formed; rows = all-coherent rows ends are each }
+  pub proof-coherent : (terms : Terms) (history : List Entry) (rows : List (List Value)) (ends : List RowEnd) → AllByRecursion (IsRow survey.fields) rows
+      → AllZip (IsEndOf survey (kept_edits survey) budget all) rows ends → IsCoherent (proof_of survey terms ends history)
+  proof-coherent terms history rows ends are each = record {
+    version = inl refl;
+    table = refl;
+    verdicts = verdicts-coherent survey formed;
+    rows =
+        all-coherent rows ends are each;
+  }
 
 -- ---- what is guaranteed of each record
 
 module _ (survey : SurveyParts) (formed : IsWellFormed survey) (budget : ℕ) (all : List (List Value)) where
   -- it has values exactly where it is a change whose giving did not stop
-  values-or-stop : (row : List Value) (donor : Option (List Value)) (o : Outcome) (stop : Option GiftFault) (gift : Option Gift) → ComesOf survey (kept_edits survey) row donor o stop gift → HasValuesOrStop o stop gift
+  values-or-stop : (row : List Value) (donor : Option (List Value)) (o : Outcome) (stop : Option GiftFault) (gift : Option Gift)
+      → ComesOf survey (kept_edits survey) row donor o stop gift → HasValuesOrStop o stop gift
   values-or-stop row donor (Change path weight cert) None None follows = follows
   values-or-stop row donor (Change path weight cert) None (Some gift) follows = tt
   values-or-stop row donor (Change path weight cert) (Some stop) None follows = tt
@@ -122,7 +142,8 @@ module _ (survey : SurveyParts) (formed : IsWellFormed survey) (budget : ℕ) (a
   values-or-stop row donor (Contradictory cert) (Some stop) gift follows = follows
 
   -- its values are a record of the survey
-  values-fit : (row : List Value) (donor : Option (List Value)) (o : Outcome) (stop : Option GiftFault) (gift : Option Gift) → ComesOf survey (kept_edits survey) row donor o stop gift → IfSome gift (λ (g : Gift). IsRow survey.fields g.row)
+  values-fit : (row : List Value) (donor : Option (List Value)) (o : Outcome) (stop : Option GiftFault) (gift : Option Gift)
+      → ComesOf survey (kept_edits survey) row donor o stop gift → IfSome gift (λ (g : Gift). IsRow survey.fields g.row)
   values-fit row donor o stop None follows = tt
   values-fit row donor (Change path weight cert) None (Some gift) follows = follows.imputed.fits
   values-fit row donor (Change path weight cert) (Some stop) (Some gift) follows = absurd follows
@@ -140,7 +161,8 @@ module _ (survey : SurveyParts) (formed : IsWellFormed survey) (budget : ℕ) (a
   first-met row (Overflow path event) e = e
   first-met row (Contradictory cert) e = tt
 
-  end-guaranteed : (row : List Value) (end : RowEnd) → IsRow survey.fields row → IsEndOf survey (kept_edits survey) budget all row end → Says survey (kept_edits survey) budget row end → IsGuaranteedEnd survey (rule_flags survey) budget row end
+  end-guaranteed : (row : List Value) (end : RowEnd) → IsRow survey.fields row → IsEndOf survey (kept_edits survey) budget all row end
+      → Says survey (kept_edits survey) budget row end → IsGuaranteedEnd survey (rule_flags survey) budget row end
   end-guaranteed row end is ends says = record {
     ends = values-or-stop row (option_map (row_at all) end.donor) end.proof.outcome end.proof.gift end.gift ends.follows;
     fits = values-fit row (option_map (row_at all) end.donor) end.proof.outcome end.proof.gift end.gift ends.follows;
@@ -149,7 +171,8 @@ module _ (survey : SurveyParts) (formed : IsWellFormed survey) (budget : ℕ) (a
     shown = tree-shown survey row budget formed is all end ends;
   }
 
-  pub all-guaranteed : (rows : List (List Value)) (ends : List RowEnd) → AllByRecursion (IsRow survey.fields) rows → AllZip (IsEndOf survey (kept_edits survey) budget all) rows ends → AllZip (Says survey (kept_edits survey) budget) rows ends
+  pub all-guaranteed : (rows : List (List Value)) (ends : List RowEnd) → AllByRecursion (IsRow survey.fields) rows
+      → AllZip (IsEndOf survey (kept_edits survey) budget all) rows ends → AllZip (Says survey (kept_edits survey) budget) rows ends
       → AllZip (IsGuaranteedEnd survey (rule_flags survey) budget) rows ends
   all-guaranteed [] [] are each say = tt
   all-guaranteed [] (end ∷ ends) are each say = absurd each
@@ -157,7 +180,8 @@ module _ (survey : SurveyParts) (formed : IsWellFormed survey) (budget : ℕ) (a
   all-guaranteed (row ∷ rows) (end ∷ ends) are each say = (end-guaranteed row end are.0 each.0 say.0, all-guaranteed rows ends are.1 each.1 say.1)
 
 -- texts are released of a record that is told to be released
-released-told : (r : RowRules) (f : RowFiles) (o : Outcome) (stop : Option GiftFault) (gift : Option Gift) → is_released (record { outcome = o; gift = stop }) ≡ is_some gift → (IsSome gift → AreReleasedTexts r f (path_found o)) → IsReleasedSaid r f o stop
+released-told : (r : RowRules) (f : RowFiles) (o : Outcome) (stop : Option GiftFault) (gift : Option Gift) → is_released (record { outcome = o; gift = stop })
+    ≡ is_some gift → (IsSome gift → AreReleasedTexts r f (path_found o)) → IsReleasedSaid r f o stop
 released-told r f (Change path weight cert) None None told released = absurd (cc told)
 released-told r f (Change path weight cert) None (Some gift) told released = released refl
 released-told r f (Change path weight cert) (Some stop) gift told released = tt
@@ -169,14 +193,17 @@ released-told r f (Contradictory cert) stop gift told released = tt
 
 -- its lines are shared after it was made of the verdicts, the terms, the ends and the claims
 pub told-written : (survey : SurveyParts) (terms : Terms) (ends : List RowEnd) (history : List Entry) (verdicts : List Verdict) (own told : Proof)
-    → verdicts ≡ rule_verdicts survey → own ≡ proof_telling verdicts terms ends history → told ≡ shared_proof own → told ≡ written_proof survey terms ends history
+    → verdicts ≡ rule_verdicts survey → own ≡ proof_telling verdicts terms ends history → told ≡ shared_proof own → told
+    ≡ written_proof survey terms ends history
 told-written survey terms ends history verdicts own told are telling shared =
     shared ∙ ap shared_proof telling ∙ ap (λ (vs : List Verdict). shared_proof (proof_telling vs terms ends history)) are
 
 -- ---- the release
 
-module _ (survey : SurveyParts) (sheet : SheetParts) (bytes : List ℕ) (terms : Terms) (ends : List RowEnd) (history : List Entry) (formed : IsWellFormed survey) (read : IsSheet survey.fields bytes sheet) (fit : AreTerms terms)
-    (each : AllZip (IsEndOf survey (kept_edits survey) terms.budget sheet.rows) sheet.rows ends) (say : AllZip (Says survey (kept_edits survey) terms.budget) sheet.rows ends)
+module _ (survey : SurveyParts) (sheet : SheetParts) (bytes : List ℕ) (terms : Terms) (ends : List RowEnd) (history : List Entry) (formed : IsWellFormed survey)
+    (read : IsSheet survey.fields bytes sheet) (fit : AreTerms terms)
+    (each : AllZip (IsEndOf survey (kept_edits survey) terms.budget sheet.rows) sheet.rows ends)
+    (say : AllZip (Says survey (kept_edits survey) terms.budget) sheet.rows ends)
     (donations : AreDonations survey sheet.rows terms ends history) where
   abbrev audit : Audit
   audit = audit_of survey sheet (released_text_of survey sheet ends) (proof_text (written_proof survey terms ends history))
@@ -188,13 +215,17 @@ module _ (survey : SurveyParts) (sheet : SheetParts) (bytes : List ℕ) (terms :
   abbrev r : RowRules
   r = own_rules audit (proof_of survey terms ends history)
 
-  row-valid : (reads : List (List ℕ)) (row : List Value) (end : RowEnd) → AreValues survey.fields sheet.columns reads row → length reads ≡ length sheet.header → IsEndOf survey (kept_edits survey) terms.budget sheet.rows row end
+  row-valid : (reads : List (List ℕ)) (row : List Value) (end : RowEnd) → AreValues survey.fields sheet.columns reads row → length reads ≡ length sheet.header
+      → IsEndOf survey (kept_edits survey) terms.budget sheet.rows row end
       → Says survey (kept_edits survey) terms.budget row end → IsValidEnd r survey.fields sheet.columns reads row end
   row-valid reads row end values long is says = (
     told,
-    said-valid survey row terms.budget formed is_row r (own_files survey.fields sheet.columns reads row end) sheet.rows end (rules-are survey sheet audit.released audit.proof terms ends history) refl is
+    said-valid survey row terms.budget formed is_row r (own_files survey.fields sheet.columns reads row end) sheet.rows end
+        (rules-are survey sheet audit.released audit.proof terms ends history) refl is
         (released-told r (own_files survey.fields sheet.columns reads row end) (said end).outcome (said end).gift end.gift told
-        (end-released r (kept_edits survey) terms.budget reads row formed is_row (one_column_a_field survey.fields bytes sheet read) (distinct_columns survey.fields bytes sheet read formed.names) within (option_map (row_at sheet.rows) end.donor) end.proof.outcome end.proof.gift end.gift is.follows says)),
+        (end-released r (kept_edits survey) terms.budget reads row formed is_row (one_column_a_field survey.fields bytes sheet read)
+        (distinct_columns survey.fields bytes sheet read formed.names) within (option_map (row_at sheet.rows) end.donor) end.proof.outcome end.proof.gift
+        end.gift is.follows says)),
   )
     where
       is_row : IsRow survey.fields row
@@ -217,12 +248,15 @@ module _ (survey : SurveyParts) (sheet : SheetParts) (bytes : List ℕ) (terms :
   release-valid plain =
       stays-valid audit (proof_of survey terms ends history) plain
       (clean-leaves (map said ends) coherent.rows)
-      (head-fits survey sheet audit.released audit.proof terms ends history fit (AllZip-long (IsEndOf survey (kept_edits survey) terms.budget sheet.rows) sheet.rows ends each))
+      (head-fits survey sheet audit.released audit.proof terms ends history fit (AllZip-long (IsEndOf survey (kept_edits survey) terms.budget sheet.rows)
+      sheet.rows ends each))
       (none-faulty survey formed terms ends history)
       (released_rows survey.fields sheet.columns sheet.row_texts ends)
-      (are-released survey bytes sheet terms ends history audit.proof read each (ends-said survey (kept_edits survey) terms.budget sheet.rows sheet.rows ends each))
+      (are-released survey bytes sheet terms ends history audit.proof read each (ends-said survey (kept_edits survey) terms.budget sheet.rows sheet.rows ends
+      each))
       (rows-valid r survey.fields sheet.columns sheet.row_texts sheet.rows ends
-      (each-follows (IsValidEnd r survey.fields sheet.columns) survey (kept_edits survey) sheet.columns (length sheet.header) terms.budget sheet.rows sheet.row_texts sheet.rows ends read.values (row_texts_as_long_as_header survey.fields bytes sheet read) each say row-valid))
+      (each-follows (IsValidEnd r survey.fields sheet.columns) survey (kept_edits survey) sheet.columns (length sheet.header) terms.budget sheet.rows
+      sheet.row_texts sheet.rows ends read.values (row_texts_as_long_as_header survey.fields bytes sheet read) each say row-valid))
       (claims-valid survey terms sheet.rows ends history donations)
 
   -- what is guaranteed of them
@@ -236,10 +270,12 @@ module _ (survey : SurveyParts) (sheet : SheetParts) (bytes : List ℕ) (terms :
 
   -- the proof that is written has one spelling
   written-plain : (p : Proof) → p ≡ written_proof survey terms ends history → IsSized p → IsPlain (written_proof survey terms ends history)
-  written-plain p same sized = plain-if (written_proof survey terms ends history) (subst IsSized same sized) (coherent-shared (proof_of survey terms ends history) coherent)
+  written-plain p same sized = plain-if (written_proof survey terms ends history) (subst IsSized same sized)
+      (coherent-shared (proof_of survey terms ends history) coherent)
 
   -- what was written tells of it
-  pub guarantee-of : (release : Release) (p : Proof) → p ≡ written_proof survey terms ends history → IsSized p → release.proof.items ≡ proof_text p → release.released.items ≡ released_text_of survey sheet ends
+  pub guarantee-of : (release : Release) (p : Proof) → p ≡ written_proof survey terms ends history → IsSized p → release.proof.items ≡ proof_text p
+      → release.released.items ≡ released_text_of survey sheet ends
       → HasGuarantee survey sheet terms release
   guarantee-of release p same sized proof released = record {
     ends = ends;
@@ -262,8 +298,10 @@ module _ (survey : SurveyParts) (sheet : SheetParts) (bytes : List ℕ) (terms :
   }
 
   -- and is the edit of the sheet
-  pub release-of : (release : Release) (p : Proof) → p ≡ written_proof survey terms ends history → IsSized p → release.proof.items ≡ proof_text p → release.reasons.items ≡ reasons_text_of survey sheet ends → release.released.items ≡ released_text_of survey sheet ends
-      → (written_in release).summary ≡ summary_lines survey ends history → (workers : ℕ) → (workers ≡ 1 → AreInOrder survey sheet.rows terms.class_field ends history) → (IsTrue release.whole ↔ AllGiven ends)
+  pub release-of : (release : Release) (p : Proof) → p ≡ written_proof survey terms ends history → IsSized p → release.proof.items ≡ proof_text p
+      → release.reasons.items ≡ reasons_text_of survey sheet ends → release.released.items ≡ released_text_of survey sheet ends
+      → (written_in release).summary ≡ summary_lines survey ends history → (workers : ℕ)
+      → (workers ≡ 1 → AreInOrder survey sheet.rows terms.class_field ends history) → (IsTrue release.whole ↔ AllGiven ends)
       → IsReleaseOf survey sheet terms workers release
   release-of release p same sized proof reasons released summary workers order whole = record {
     ends = ends;
@@ -279,7 +317,9 @@ module _ (survey : SurveyParts) (sheet : SheetParts) (bytes : List ℕ) (terms :
       released = released;
       summary = summary;
       trees = has-trees survey terms ends history sheet.rows shown;
-      valid = subst (λ (given : List ℕ). IsValidRelease (audit_of survey sheet given release.proof.items)) (sym released) (subst (λ (told : List ℕ). IsValidRelease (audit_of survey sheet (released_text_of survey sheet ends) told)) (sym text) (release-valid (written-plain p same sized)));
+      valid = subst (λ (given : List ℕ). IsValidRelease (audit_of survey sheet given release.proof.items)) (sym released)
+          (subst (λ (told : List ℕ). IsValidRelease (audit_of survey sheet (released_text_of survey sheet ends) told)) (sym text)
+          (release-valid (written-plain p same sized)));
     };
     whole = whole;
   }

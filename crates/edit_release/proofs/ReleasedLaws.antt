@@ -1,5 +1,6 @@
 -- The released file has a row of each record that the proof says is released, with the values that were given.
-use Rattle.std.proofs.Common.{◌≡◌, ◌≢◌, ◌∙◌, sym, ap, subst, refl, ℕ, zero, suc, ◌+◌, ◌<◌, ◌++◌, Bool, true, false, if◌then◌else◌, List, [], ◌∷◌, length, map, slice_get, All, AllPairs, IsSomeAnd, Option, Some, None, arith, option_map}
+use Rattle.std.proofs.Common.{◌≡◌, ◌≢◌, ◌∙◌, sym, ap, subst, refl, ℕ, zero, suc, ◌+◌, ◌<◌, ◌++◌, Bool, true, false, if◌then◌else◌, List, [], ◌∷◌, length, map}
+use Rattle.std.proofs.Common.{slice_get, All, AllPairs, IsSomeAnd, Option, Some, None, arith, option_map}
 use Rattle.std.specs.Prelude.{is_some}
 use Rattle.std.specs.List.{AllByRecursion, AllZip, filter}
 use Rattle.std.proofs.lemmas.List.{get_or_past}
@@ -48,7 +49,8 @@ use Rattle.edit_model.proofs.CleanLaws.{held-clean}
 abbrev pub IsSaidReleased : RowEnd → Type 0
 IsSaidReleased end = is_released (said end) ≡ is_some end.gift
 
-said-released : (survey : SurveyParts) (edits : EditsParts) (row : List Value) (donor : Option (List Value)) (outcome : Outcome) (fault : Option GiftFault) (gift : Option Gift) → ComesOf survey edits row donor outcome fault gift
+said-released : (survey : SurveyParts) (edits : EditsParts) (row : List Value) (donor : Option (List Value)) (outcome : Outcome) (fault : Option GiftFault)
+    (gift : Option Gift) → ComesOf survey edits row donor outcome fault gift
     → is_released (said_of outcome fault) ≡ is_some gift
 said-released survey edits row donor (Change path zero cert) None None follows = absurd follows
 said-released survey edits row donor (Change path zero cert) None (Some gift) follows = refl
@@ -71,40 +73,52 @@ said-released survey edits row donor (Contradictory cert) None (Some gift) follo
 said-released survey edits row donor (Contradictory cert) (Some fault) None follows = absurd follows
 said-released survey edits row donor (Contradictory cert) (Some fault) (Some gift) follows = absurd follows
 
-pub end-said : (survey : SurveyParts) (edits : EditsParts) (budget : ℕ) (all : List (List Value)) (row : List Value) (end : RowEnd) → IsEndOf survey edits budget all row end → IsSaidReleased end
-end-said survey edits budget all row end is = said-released survey edits row (option_map (row_at all) end.donor) end.proof.outcome end.proof.gift end.gift is.follows
+pub end-said : (survey : SurveyParts) (edits : EditsParts) (budget : ℕ) (all : List (List Value)) (row : List Value) (end : RowEnd)
+    → IsEndOf survey edits budget all row end → IsSaidReleased end
+end-said survey edits budget all row end is = said-released survey edits row (option_map (row_at all) end.donor) end.proof.outcome end.proof.gift end.gift
+    is.follows
 
-pub ends-said : (survey : SurveyParts) (edits : EditsParts) (budget : ℕ) (all rows : List (List Value)) (ends : List RowEnd) → AllZip (IsEndOf survey edits budget all) rows ends
+pub ends-said : (survey : SurveyParts) (edits : EditsParts) (budget : ℕ) (all rows : List (List Value)) (ends : List RowEnd)
+    → AllZip (IsEndOf survey edits budget all) rows ends
     → AllByRecursion IsSaidReleased ends
 ends-said survey edits budget all [] [] each = tt
 ends-said survey edits budget all [] (end ∷ ends) each = absurd each
 ends-said survey edits budget all (row ∷ rows) [] each = absurd each
-ends-said survey edits budget all (row ∷ rows) (end ∷ ends) each = (end-said survey edits budget all row end each.0, ends-said survey edits budget all rows ends each.1)
+ends-said survey edits budget all (row ∷ rows) (end ∷ ends) each = (
+  end-said survey edits budget all row end each.0,
+  ends-said survey edits budget all rows ends
+      each.1,
+)
 
 -- there are as many
-said-count : (ends : List RowEnd) → AllByRecursion IsSaidReleased ends → length (filter (λ (end : RowEnd). is_some end.gift) ends) ≡ length (filter is_released (map said ends))
+said-count : (ends : List RowEnd) → AllByRecursion IsSaidReleased ends → length (filter (λ (end : RowEnd). is_some end.gift) ends)
+    ≡ length (filter is_released (map said ends))
 said-count [] each = refl
 said-count (end ∷ ends) each =
     more (is_some end.gift) (said-count ends each.1)
     ∙ ap (λ b. length (if b then said end ∷ filter is_released (map said ends) else filter is_released (map said ends))) (sym each.0)
   where
     more : (b : Bool) → length (filter (λ (e : RowEnd). is_some e.gift) ends) ≡ length (filter is_released (map said ends))
-        → length (if b then end ∷ filter (λ (e : RowEnd). is_some e.gift) ends else filter (λ (e : RowEnd). is_some e.gift) ends) ≡ length (if b then said end ∷ filter is_released (map said ends) else filter is_released (map said ends))
+        → length (if b then end ∷ filter (λ (e : RowEnd). is_some e.gift) ends else filter (λ (e : RowEnd). is_some e.gift) ends)
+        ≡ length (if b then said end ∷ filter is_released (map said ends) else filter is_released (map said ends))
     more true same = ap suc same
     more false same = same
 
 -- ---- how long the released rows are
 
 -- a released row has the columns of the one that was read
-pub texts-length : (fields : List Field) (columns : List ℕ) (changed : ℕ → Bool) (new : List Value) (j : ℕ) (texts : List (List ℕ)) → length (texts_from fields columns changed new j texts) ≡ length texts
+pub texts-length : (fields : List Field) (columns : List ℕ) (changed : ℕ → Bool) (new : List Value) (j : ℕ) (texts : List (List ℕ))
+    → length (texts_from fields columns changed new j texts) ≡ length texts
 texts-length fields columns changed new j [] = refl
 texts-length fields columns changed new j (text ∷ texts) = ap suc (texts-length fields columns changed new (suc j) texts)
 
-rows-long : (fields : List Field) (columns : List ℕ) (width : ℕ) (row_texts : List (List (List ℕ))) (ends : List RowEnd) → AllByRecursion (λ (texts : List (List ℕ)). length texts ≡ width) row_texts
+rows-long : (fields : List Field) (columns : List ℕ) (width : ℕ) (row_texts : List (List (List ℕ))) (ends : List RowEnd)
+    → AllByRecursion (λ (texts : List (List ℕ)). length texts ≡ width) row_texts
     → AllByRecursion (λ (texts : List (List ℕ)). length texts ≡ width) (released_rows fields columns row_texts ends)
 rows-long fields columns width [] ends long = tt
 rows-long fields columns width (texts ∷ row_texts) [] long = tt
-rows-long fields columns width (texts ∷ row_texts) (end ∷ ends) long = first (path_found end.proof.outcome) end.gift (rows-long fields columns width row_texts ends long.1)
+rows-long fields columns width (texts ∷ row_texts) (end ∷ ends) long = first (path_found end.proof.outcome) end.gift
+    (rows-long fields columns width row_texts ends long.1)
   where
     first : (path : List Bool) (gift : Option Gift) → AllByRecursion (λ (ts : List (List ℕ)). length ts ≡ width) (released_rows fields columns row_texts ends)
         → AllByRecursion (λ (ts : List (List ℕ)). length ts ≡ width) (row_with fields columns texts path gift ++ released_rows fields columns row_texts ends)
@@ -114,16 +128,20 @@ rows-long fields columns width (texts ∷ row_texts) (end ∷ ends) long = first
 -- ---- the released file
 
 -- the released file has a row of each record that the proof says is released, behind the header
-pub are-released : (survey : SurveyParts) (bytes : List ℕ) (sheet : SheetParts) (terms : Terms) (ends : List RowEnd) (history : List Entry) (proof : List ℕ) → IsSheet survey.fields bytes sheet
+pub are-released : (survey : SurveyParts) (bytes : List ℕ) (sheet : SheetParts) (terms : Terms) (ends : List RowEnd) (history : List Entry) (proof : List ℕ)
+    → IsSheet survey.fields bytes sheet
     → AllZip (IsEndOf survey (kept_edits survey) terms.budget sheet.rows) sheet.rows ends
     → AllByRecursion IsSaidReleased ends
-    → AreReleased (audit_of survey sheet (released_text_of survey sheet ends) proof) (proof_of survey terms ends history) (released_rows survey.fields sheet.columns sheet.row_texts ends)
+    → AreReleased (audit_of survey sheet (released_text_of survey sheet ends) proof) (proof_of survey terms ends history)
+    (released_rows survey.fields sheet.columns sheet.row_texts ends)
 are-released survey bytes sheet terms ends history proof is each told = record {
   first = sheet.header;
-  given = written-read sheet.header (released_rows survey.fields sheet.columns sheet.row_texts ends) (header_has_text survey.fields bytes sheet is) (sheet_header_kept survey.fields bytes sheet is) long;
+  given = written-read sheet.header (released_rows survey.fields sheet.columns sheet.row_texts ends) (header_has_text survey.fields bytes sheet is)
+      (sheet_header_kept survey.fields bytes sheet is) long;
   header = sheet_header_kept survey.fields bytes sheet is;
   long = long;
-  one_each = released-count survey.fields sheet.columns sheet.row_texts ends (as_many_row_texts_as_rows survey.fields bytes sheet is ∙ sym (AllZip-long (IsEndOf survey (kept_edits survey) terms.budget sheet.rows) sheet.rows ends each)) ∙ said-count ends told;
+  one_each = released-count survey.fields sheet.columns sheet.row_texts ends (as_many_row_texts_as_rows survey.fields bytes sheet is
+      ∙ sym (AllZip-long (IsEndOf survey (kept_edits survey) terms.budget sheet.rows) sheet.rows ends each)) ∙ said-count ends told;
 }
   where
     long : AllByRecursion (λ (texts : List (List ℕ)). length texts ≡ length sheet.header) (released_rows survey.fields sheet.columns sheet.row_texts ends)
@@ -131,41 +149,51 @@ are-released survey bytes sheet terms ends history proof is each told = record {
 
 -- ---- a released row
 
-module _ (survey : SurveyParts) (edits : EditsParts) (columns : List ℕ) (reads : List (List ℕ)) (row : List Value) (path : List Bool) (weight : ℕ) (donor : Option (List Value)) (gift : Gift) (well : IsWellFormed survey) (is_row : IsRow survey.fields row)
-    (one_each : length columns ≡ length survey.fields) (distinct : AllPairs (λ (c : ℕ) (d : ℕ). c ≢ d) columns) (within : All (λ (c : ℕ). c < length reads) columns)
+module _ (survey : SurveyParts) (edits : EditsParts) (columns : List ℕ) (reads : List (List ℕ)) (row : List Value) (path : List Bool) (weight : ℕ)
+    (donor : Option (List Value)) (gift : Gift) (well : IsWellFormed survey) (is_row : IsRow survey.fields row)
+    (one_each : length columns ≡ length survey.fields) (distinct : AllPairs (λ (c : ℕ) (d : ℕ). c ≢ d) columns)
+    (within : All (λ (c : ℕ). c < length reads) columns)
     (given : IsGiftOf survey edits row path donor gift) (corrected : IsCorrected survey row gift.row path weight) where
   abbrev texts : List (List ℕ)
   texts = released_texts survey.fields columns path gift.row reads
 
   -- the path changes the fields that are given values
   changed-given : (f : ℕ) → f < length survey.fields → changes survey.fields path f ≡ has_number given.changed f
-  changed-given f below = ap (λ (letters : List Bool). changes survey.fields letters f) (sym given.fields) ∙ word-at (has_number given.changed) (path_order survey.fields) f false (field-ordered survey.fields f below)
+  changed-given f below = ap (λ (letters : List Bool). changes survey.fields letters f) (sym given.fields)
+      ∙ word-at (has_number given.changed) (path_order survey.fields) f false (field-ordered survey.fields f below)
 
   -- and at these the correction differs
   changed-differs : (f : ℕ) → f < length survey.fields → changes survey.fields path f ≡ differs_from (value_of row f) corrected.point f
   changed-differs f below =
-      ap (λ (letters : List Bool). changes survey.fields letters f) (sym corrected.differs) ∙ word-at (λ g. differs_from (value_of row g) corrected.point g) (path_order survey.fields) f false (field-ordered survey.fields f below)
+      ap (λ (letters : List Bool). changes survey.fields letters f) (sym corrected.differs)
+      ∙ word-at (λ g. differs_from (value_of row g) corrected.point g) (path_order survey.fields) f false (field-ordered survey.fields f below)
 
   agrees : (f : ℕ) → f < length gift.row → Agrees gift.row corrected.point f
   agrees f below = corrected.correction.agrees f below refl
 
   -- the text of a changed field is that of its value
-  text-given : (f : ℕ) (field : Field) → slice_get survey.fields f ≡ Some field → changes survey.fields path f ≡ true → IsGivenText field.kind (text_at columns texts f) (value_of gift.row f)
+  text-given : (f : ℕ) (field : Field) → slice_get survey.fields f ≡ Some field → changes survey.fields path f ≡ true
+      → IsGivenText field.kind (text_at columns texts f) (value_of gift.row f)
   text-given f field at is =
       let below = slice_get_within survey.fields f field at in
       let there : f < length gift.row = omega (arith, below, row-length survey.fields gift.row given.imputed.fits) in
       let own : IsField field = subst IsField (get_or_from_slice_get survey.fields f field field at) (well.fields f field below) in
-      let fits : IsOfKind field.kind (value_of gift.row f) = subst (λ (o : Option Field). IsSomeAnd o (λ g. IsOfKind g.kind (value_of gift.row f))) at (value-held survey.fields gift.row f given.imputed.fits below) in
+      let fits : IsOfKind field.kind (value_of gift.row f) = subst (λ (o : Option Field). IsSomeAnd o (λ g. IsOfKind g.kind (value_of gift.row f))) at
+      (value-held survey.fields gift.row f given.imputed.fits below) in
       let text : text_at columns texts f ≡ value_text field.kind (value_of gift.row f) =
-      changed-text survey.fields columns (changes survey.fields path) gift.row f reads distinct (omega (arith, below, one_each)) (within f 0 (omega (arith, below, one_each))) is ∙ ap (λ (o : Option Field). text_by o (value_of gift.row f)) at in
-      subst (λ (t : List ℕ). IsGivenText field.kind t (value_of gift.row f)) (sym text) (given-text field.kind (value_of gift.row f) own.fits fits (agrees-held gift.row corrected.point f (agrees f there)))
+      changed-text survey.fields columns (changes survey.fields path) gift.row f reads distinct (omega (arith, below, one_each))
+      (within f 0 (omega (arith, below, one_each))) is ∙ ap (λ (o : Option Field). text_by o (value_of gift.row f)) at in
+      subst (λ (t : List ℕ). IsGivenText field.kind t (value_of gift.row f)) (sym text) (given-text field.kind (value_of gift.row f) own.fits fits
+      (agrees-held gift.row corrected.point f (agrees f there)))
 
-  value-told : (f : ℕ) (field : Field) (told : Bool) → slice_get survey.fields f ≡ Some field → changes survey.fields path f ≡ told → IsValueOf told field.kind (text_at columns texts f) (value_of row f) (value_of gift.row f)
+  value-told : (f : ℕ) (field : Field) (told : Bool) → slice_get survey.fields f ≡ Some field → changes survey.fields path f ≡ told
+      → IsValueOf told field.kind (text_at columns texts f) (value_of row f) (value_of gift.row f)
   value-told f field false at is = given.imputed.keeps f (sym (changed-given f (slice_get_within survey.fields f field at)) ∙ is)
   value-told f field true at is =
       let below = slice_get_within survey.fields f field at in (
         text-given f field at is,
-        other-value (value_of gift.row f) (value_of row f) corrected.point f (sym (changed-differs f below) ∙ is) (agrees f (omega (arith, below, row-length survey.fields gift.row given.imputed.fits))),
+        other-value (value_of gift.row f) (value_of row f) corrected.point f (sym (changed-differs f below) ∙ is)
+            (agrees f (omega (arith, below, row-length survey.fields gift.row given.imputed.fits))),
       )
 
   -- the row is released where it is told which fields the path changes
@@ -173,7 +201,8 @@ module _ (survey : SurveyParts) (edits : EditsParts) (columns : List ℕ) (reads
   released-as told same = record {
     values = values-from told (text_at columns texts) 0 survey.fields row gift.row is_row given.imputed.fits (λ k field at.
         let own : 0 + k ≡ k = omega arith in
-        subst (λ n. IsValueOf (told n) field.kind (text_at columns texts n) (value_of row k) (value_of gift.row k)) (sym own) (value-told k field (told k) at (sym (same k))));
+        subst (λ n. IsValueOf (told n) field.kind (text_at columns texts n) (value_of row k) (value_of gift.row k)) (sym own)
+        (value-told k field (told k) at (sym (same k))));
     elsewhere = same-elsewhere survey.fields columns (changes survey.fields path) gift.row told same 0 reads;
     clean = held-clean survey gift.row (λ f below. agrees-held gift.row corrected.point f (agrees f below)) given.tested;
   }
@@ -183,8 +212,10 @@ module _ (survey : SurveyParts) (edits : EditsParts) (columns : List ℕ) (reads
   row-released = released-as (changes survey.fields path) (λ f. refl)
 
   -- and that of a clean one with none
-  pub clean-released : weight ≡ 0 → IsReleasedAs survey columns (changes survey.fields []) reads row (released_texts survey.fields columns path gift.row reads) gift.row
+  pub clean-released : weight ≡ 0 → IsReleasedAs survey columns (changes survey.fields []) reads row (released_texts survey.fields columns path gift.row reads)
+      gift.row
   clean-released none = released-as (changes survey.fields []) (λ f. get_or_past [] (path_place survey.fields f) false (omega arith) ∙ sym (unchanged f))
     where
       unchanged : (f : ℕ) → changes survey.fields path f ≡ false
-      unchanged f = ap (λ (letters : List Bool). changes survey.fields letters f) (sym corrected.differs) ∙ none-differs survey row corrected.point well.fields is_row (corrected.weighs ∙ none) f
+      unchanged f = ap (λ (letters : List Bool). changes survey.fields letters f) (sym corrected.differs)
+          ∙ none-differs survey row corrected.point well.fields is_row (corrected.weighs ∙ none) f

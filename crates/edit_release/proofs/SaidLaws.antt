@@ -49,7 +49,8 @@ flags-said (Dropped steps ∷ verdicts) = ap (λ (kept : List Bool). false ∷ k
 pub rules-are : (survey : SurveyParts) (sheet : SheetParts) (released proof : List ℕ) (terms : Terms) (ends : List RowEnd) (history : List Entry)
     → own_rules (audit_of survey sheet released proof) (proof_of survey terms ends history) ≡ edit_rules survey sheet.columns terms.budget
 rules-are survey sheet released proof terms ends history =
-    ap (λ (usable : List Bool). record { survey = survey; given = normal_lines_of survey; usable = usable; columns = sheet.columns; budget = terms.budget }) (flags-said (rule_verdicts survey))
+    ap (λ (usable : List Bool). record { survey = survey; given = normal_lines_of survey; usable = usable; columns = sheet.columns; budget = terms.budget })
+    (flags-said (rule_verdicts survey))
 
 -- texts are released for a record that is changed and was given values
 abbrev pub IsReleasedSaid : RowRules → RowFiles → Outcome → Option GiftFault → Type 0
@@ -58,13 +59,17 @@ IsReleasedSaid r f o stop = Unit {0}
 
 module _ (survey : SurveyParts) (row : List Value) (budget : ℕ) (formed : IsWellFormed survey) (is : IsRow survey.fields row) where
   -- the tree of an outcome is valid
-  pub has-tree : (o : Outcome) → outcome_of (case_of survey (kept_edits survey) row) budget ≡ o → HasTree survey (normal_lines_of survey) (rule_flags survey) row o
-  has-tree (outcome.Change path weight cert) e = change-tree (case_of survey (kept_edits survey) row) (rule-case survey row formed is) (normal_lines_of survey) (rule_flags survey) (rules-given survey) budget path weight cert e
+  pub has-tree : (o : Outcome) → outcome_of (case_of survey (kept_edits survey) row) budget ≡ o
+      → HasTree survey (normal_lines_of survey) (rule_flags survey) row o
+  has-tree (outcome.Change path weight cert) e = change-tree (case_of survey (kept_edits survey) row) (rule-case survey row formed is) (normal_lines_of survey)
+      (rule_flags survey) (rules-given survey) budget path weight cert e
   has-tree (outcome.Budget path work) e = tt
   has-tree (outcome.Overflow path event) e = tt
-  has-tree (outcome.Contradictory cert) e = contradiction-tree (case_of survey (kept_edits survey) row) (rule-case survey row formed is) (normal_lines_of survey) (rule_flags survey) (rules-given survey) budget cert e
+  has-tree (outcome.Contradictory cert) e = contradiction-tree (case_of survey (kept_edits survey) row) (rule-case survey row formed is)
+      (normal_lines_of survey) (rule_flags survey) (rules-given survey) budget cert e
 
-  pub tree-shown : (all : List (List Value)) (end : RowEnd) → IsEndOf survey (kept_edits survey) budget all row end → HasTree survey (normal_lines_of survey) (rule_flags survey) row end.proof.outcome
+  pub tree-shown : (all : List (List Value)) (end : RowEnd) → IsEndOf survey (kept_edits survey) budget all row end
+      → HasTree survey (normal_lines_of survey) (rule_flags survey) row end.proof.outcome
   tree-shown all end ends = has-tree end.proof.outcome (sym ends.outcome)
 
   module _ (columns : List ℕ) (reads : List (List ℕ)) (texts : Option (List (List ℕ))) where
@@ -78,25 +83,35 @@ module _ (survey : SurveyParts) (row : List Value) (budget : ℕ) (formed : IsWe
     abbrev IsRight : RowProof → Type 0
     IsRight said = IsReleasedSaid r f said.outcome said.gift → IsValidRow r f said
 
-    stopped : (donor : Option (List Value)) (path : List Bool) (weight : ℕ) (cert : Cert) (stop : GiftFault) (gift : Option Gift) → outcome_of (case_of survey (kept_edits survey) row) budget ≡ outcome.Change path weight cert
+    stopped : (donor : Option (List Value)) (path : List Bool) (weight : ℕ) (cert : Cert) (stop : GiftFault) (gift : Option Gift)
+        → outcome_of (case_of survey (kept_edits survey) row) budget ≡ outcome.Change path weight cert
         → ComesOf survey (kept_edits survey) row donor (outcome.Change path weight cert) (Some stop) gift → IsValidGift r f path weight cert.leaves stop
-    stopped donor path weight cert stop None e follows =
-        ((change-is (case_of survey (kept_edits survey) row) budget path weight cert e, has-tree _ e), stop-there survey (kept_edits survey) row follows.changed donor stop follows.stops)
+    stopped donor path weight cert stop None e follows = (
+      (change-is (case_of survey (kept_edits survey) row) budget path weight cert e, has-tree _ e),
+      stop-there survey (kept_edits survey) row follows.changed
+          donor stop follows.stops,
+    )
     stopped donor path weight cert stop (Some gift) e follows = absurd follows
 
-    right-said : (donor : Option (List Value)) (o : Outcome) (stop : Option GiftFault) (gift : Option Gift) → outcome_of (case_of survey (kept_edits survey) row) budget ≡ o → ComesOf survey (kept_edits survey) row donor o stop gift → IsRight (said_of o stop)
+    right-said : (donor : Option (List Value)) (o : Outcome) (stop : Option GiftFault) (gift : Option Gift)
+        → outcome_of (case_of survey (kept_edits survey) row) budget ≡ o → ComesOf survey (kept_edits survey) row donor o stop gift → IsRight (said_of o stop)
     right-said donor (outcome.Change path zero cert) None gift e follows released = released
-    right-said donor (outcome.Change path (suc w) cert) None gift e follows released = ((change-is (case_of survey (kept_edits survey) row) budget path (suc w) cert e, has-tree _ e), released)
+    right-said donor (outcome.Change path (suc w) cert) None gift e follows released =
+        ((change-is (case_of survey (kept_edits survey) row) budget path (suc w) cert e, has-tree _ e), released)
     right-said donor (outcome.Change path zero cert) (Some stop) gift e follows released = stopped donor path zero cert stop gift e follows
     right-said donor (outcome.Change path (suc w) cert) (Some stop) gift e follows released = stopped donor path (suc w) cert stop gift e follows
     right-said donor (outcome.Budget path work) stop gift e follows released = work-within (case_of survey (kept_edits survey) row) budget path work e
-    right-said donor (outcome.Overflow path event) stop gift e follows released = event-there (case_of survey (kept_edits survey) row) (rule-case survey row formed is) budget path event e
+    right-said donor (outcome.Overflow path event) stop gift e follows released = event-there (case_of survey (kept_edits survey) row)
+        (rule-case survey row formed is) budget path event e
     right-said donor (outcome.Contradictory cert) stop gift e follows released = has-tree _ e
 
   -- the proof of an edit is right of a record
-  pub said-valid : (r : RowRules) (f : RowFiles) (all : List (List Value)) (end : RowEnd) → r ≡ edit_rules survey r.columns budget → f.row ≡ row → IsEndOf survey (kept_edits survey) budget all row end
+  pub said-valid : (r : RowRules) (f : RowFiles) (all : List (List Value)) (end : RowEnd) → r ≡ edit_rules survey r.columns budget → f.row ≡ row
+      → IsEndOf survey (kept_edits survey) budget all row end
       → IsReleasedSaid r f (said end).outcome (said end).gift → IsValidRow r f (said end)
   said-valid r f all end rules_are row_is ends =
       subst (λ (s : RowRules). IsReleasedSaid s f (said end).outcome (said end).gift → IsValidRow s f (said end)) (sym rules_are)
-      (subst (λ (read : List Value). (let g : RowFiles = record { reads = f.reads; row = read; texts = f.texts } in IsReleasedSaid (edit_rules survey r.columns budget) g (said end).outcome (said end).gift → IsValidRow (edit_rules survey r.columns budget) g (said end))) (sym row_is)
+      (subst (λ (read : List Value). (let g : RowFiles = record { reads = f.reads; row = read; texts = f.texts } in
+      IsReleasedSaid (edit_rules survey r.columns budget) g (said end).outcome (said end).gift
+      → IsValidRow (edit_rules survey r.columns budget) g (said end))) (sym row_is)
       (right-said r.columns f.reads f.texts (option_map (row_at all) end.donor) end.proof.outcome end.proof.gift end.gift (sym ends.outcome) ends.follows))

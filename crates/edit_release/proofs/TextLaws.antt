@@ -25,7 +25,8 @@ use Rattle.edit_report.specs.declared.end.RowEnd.{RowEnd}
 use Rattle.record_ends.specs.Ends.{ComesOf, IsEndOf, IsGiftOf}
 use Rattle.donor_search.specs.CleanRows.{row_at}
 
-module _ (survey : SurveyParts) (edits : EditsParts) (row : List Value) (path : List Bool) (donor : Option (List Value)) (gift : Gift) (is : IsGiftOf survey edits row path donor gift) where
+module _ (survey : SurveyParts) (edits : EditsParts) (row : List Value) (path : List Bool) (donor : Option (List Value)) (gift : Gift)
+    (is : IsGiftOf survey edits row path donor gift) where
   -- the path says something of all fields
   whole : length path ≡ length survey.fields
   whole = ap (λ (p : List Bool). length p) (sym is.fields) ∙ length-map (path_order survey.fields) (has_number is.changed) ∙ order-length survey.fields
@@ -49,7 +50,8 @@ module _ (survey : SurveyParts) (edits : EditsParts) (row : List Value) (path : 
   }
 
 -- what follows on an outcome can be told
-follows-tellable : (survey : SurveyParts) (edits : EditsParts) (row : List Value) (donor : Option (List Value)) (o : Outcome) (stop : Option GiftFault) (gift : Option Gift) → ComesOf survey edits row donor o stop gift → IfSome gift (IsGift survey.fields (path_found o))
+follows-tellable : (survey : SurveyParts) (edits : EditsParts) (row : List Value) (donor : Option (List Value)) (o : Outcome) (stop : Option GiftFault)
+    (gift : Option Gift) → ComesOf survey edits row donor o stop gift → IfSome gift (IsGift survey.fields (path_found o))
 follows-tellable survey edits row donor (Change path weight cert) None (Some gift) follows = gift-tellable survey edits row path donor gift follows
 follows-tellable survey edits row donor (Change path weight cert) (Some stop) (Some gift) follows = absurd follows
 follows-tellable survey edits row donor (Budget path work) None (Some gift) follows = absurd follows
@@ -61,12 +63,20 @@ follows-tellable survey edits row donor (Contradictory cert) (Some stop) (Some g
 follows-tellable survey edits row donor o stop None follows = tt
 
 -- the ends of all records can be told, and there is one for each
-pub each-tellable : (survey : SurveyParts) (edits : EditsParts) (budget : ℕ) (all rows : List (List Value)) (ends : List RowEnd) → AllZip (IsEndOf survey edits budget all) rows ends → AllByRecursion (IsEnd survey.fields) ends
+pub each-tellable : (survey : SurveyParts) (edits : EditsParts) (budget : ℕ) (all rows : List (List Value)) (ends : List RowEnd)
+    → AllZip (IsEndOf survey edits budget all) rows ends → AllByRecursion (IsEnd survey.fields) ends
 each-tellable survey edits budget all [] [] each = tt
 each-tellable survey edits budget all [] (end ∷ ends) each = absurd each
 each-tellable survey edits budget all (row ∷ rows) [] each = absurd each
-each-tellable survey edits budget all (row ∷ rows) (end ∷ ends) each =
-    (follows-tellable survey edits row (option_map (row_at all) end.donor) end.proof.outcome end.proof.gift end.gift each.0.follows, each-tellable survey edits budget all rows ends each.1)
+each-tellable survey edits budget all (row ∷ rows) (end ∷ ends) each = (
+  follows-tellable survey edits row (option_map (row_at all) end.donor) end.proof.outcome end.proof.gift end.gift each.0.follows,
+  each-tellable survey edits budget all rows ends each.1,
+)
 
-pub ends-tellable : (survey : SurveyParts) (edits : EditsParts) (budget : ℕ) (s : SheetParts) (ends : List RowEnd) → AllZip (IsEndOf survey edits budget s.rows) s.rows ends → AreEnds survey s ends
-ends-tellable survey edits budget s ends each = record { one_each = AllZip-long (IsEndOf survey edits budget s.rows) s.rows ends each; each = each-tellable survey edits budget s.rows s.rows ends each }
+pub ends-tellable : (survey : SurveyParts) (edits : EditsParts) (budget : ℕ) (s : SheetParts) (ends : List RowEnd)
+    → AllZip (IsEndOf survey edits budget s.rows) s.rows ends → AreEnds survey s ends
+ends-tellable survey edits budget s ends each = record {
+  one_each = AllZip-long (IsEndOf survey edits budget s.rows) s.rows ends each;
+  each =
+      each-tellable survey edits budget s.rows s.rows ends each;
+}

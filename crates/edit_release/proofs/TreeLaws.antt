@@ -1,5 +1,6 @@
 -- The proof that is written has a tree for each record, over the lines of the rules that are kept and those of its table.
-use Rattle.std.proofs.Common.{◌≡◌, ◌∙◌, ◌++◌, ℕ, zero, suc, Bool, true, List, [], ◌∷◌, Option, Some, None, Ok, is_none, length, map, refl, sym, ap, subst, append_assoc, append-nil, arith}
+use Rattle.std.proofs.Common.{◌≡◌, ◌∙◌, ◌++◌, ℕ, zero, suc, Bool, true, List, [], ◌∷◌, Option, Some, None, Ok, is_none, length, map, refl, sym, ap, subst}
+use Rattle.std.proofs.Common.{append_assoc, append-nil, arith}
 use Rattle.std.specs.List.{AllZip}
 use Rattle.std.proofs.lemmas.List.{length-map}
 use Rattle.edit_model.specs.Parts.{SurveyParts}
@@ -32,7 +33,8 @@ use Rattle.edit_release.proofs.SaidLaws.{flags-said}
 -- ---- what the proof says of a record has the tree of its end
 
 module _ (survey : SurveyParts) (lines : List LineParts) (usable : List Bool) where
-  said-tree : (row : List Value) (o : Outcome) (stop : Option GiftFault) → HasTree survey lines usable row o → HasTree survey lines usable row (said_of o stop).outcome
+  said-tree : (row : List Value) (o : Outcome) (stop : Option GiftFault) → HasTree survey lines usable row o
+      → HasTree survey lines usable row (said_of o stop).outcome
   said-tree row (Change path zero cert) None has = has
   said-tree row (Change path zero cert) (Some stop) has = has
   said-tree row (Change path (suc w) cert) None has = has
@@ -41,7 +43,8 @@ module _ (survey : SurveyParts) (lines : List LineParts) (usable : List Bool) wh
   said-tree row (Overflow path event) stop has = has
   said-tree row (Contradictory cert) stop has = has
 
-  said-trees : (rows : List (List Value)) (ends : List RowEnd) → AllZip (λ row (end : RowEnd). HasTree survey lines usable row end.proof.outcome) rows ends → AllZip (λ row (s : RowProof). HasTree survey lines usable row s.outcome) rows (map said ends)
+  said-trees : (rows : List (List Value)) (ends : List RowEnd) → AllZip (λ row (end : RowEnd). HasTree survey lines usable row end.proof.outcome) rows ends
+      → AllZip (λ row (s : RowProof). HasTree survey lines usable row s.outcome) rows (map said ends)
   said-trees [] [] each = tt
   said-trees [] (end ∷ ends) each = absurd each
   said-trees (row ∷ rows) [] each = absurd each
@@ -67,15 +70,18 @@ module _ (survey : SurveyParts) (lines : List LineParts) (usable : List Bool) (e
 
   -- of one record
   outcome-tree : (table : List Step) (shared : List LineParts) (row : List Value) (o : Outcome) → AreLines table shared → HasTree survey lines usable row o
-      → (more : List LineParts) × AreLines (table_with_leaves table (leaves_in o)) (shared ++ more) × HasTreeWith (shared ++ more) row (shared_outcome (length lines) table o)
+      → (more : List LineParts) × AreLines (table_with_leaves table (leaves_in o)) (shared ++ more)
+      × HasTreeWith (shared ++ more) row (shared_outcome (length lines) table o)
   outcome-tree table shared row (Change path w cert) are has = tree-shared (tree_case survey lines usable row (Some w)) table shared cert.leaves even are has
   outcome-tree table shared row (Budget path work) are has = ([], are ∙ ap (λ (ls : List LineParts). Ok ls) (sym (append-nil shared)), tt)
   outcome-tree table shared row (Overflow path event) are has = ([], are ∙ ap (λ (ls : List LineParts). Ok ls) (sym (append-nil shared)), tt)
   outcome-tree table shared row (Contradictory cert) are has = tree-shared (tree_case survey lines usable row None) table shared cert.leaves even are has
 
   -- of all records
-  trees-shared : (table : List Step) (shared : List LineParts) (rows : List (List Value)) (saids : List RowProof) → AreLines table shared → AllZip (λ row (s : RowProof). HasTree survey lines usable row s.outcome) rows saids
-      → (more : List LineParts) × AreLines (table_with_rows table saids) (shared ++ more) × AllZip (λ row (s : RowProof). HasTreeWith (shared ++ more) row s.outcome) rows (shared_rows (length lines) table saids)
+  trees-shared : (table : List Step) (shared : List LineParts) (rows : List (List Value)) (saids : List RowProof) → AreLines table shared
+      → AllZip (λ row (s : RowProof). HasTree survey lines usable row s.outcome) rows saids
+      → (more : List LineParts) × AreLines (table_with_rows table saids) (shared ++ more) × AllZip
+      (λ row (s : RowProof). HasTreeWith (shared ++ more) row s.outcome) rows (shared_rows (length lines) table saids)
   trees-shared table shared [] [] are each = ([], are ∙ ap (λ (ls : List LineParts). Ok ls) (sym (append-nil shared)), tt)
   trees-shared table shared [] (s ∷ saids) are each = absurd each
   trees-shared table shared (row ∷ rows) [] are each = absurd each
@@ -85,7 +91,8 @@ module _ (survey : SurveyParts) (lines : List LineParts) (usable : List Bool) (e
       let joined : (shared ++ more) ++ rest ≡ shared ++ (more ++ rest) = rw append_assoc refl in (
         more ++ rest,
         subst (λ (ls : List LineParts). AreLines (table_with_rows table (s ∷ saids)) ls) joined rest_are,
-        subst (λ (ls : List LineParts). AllZip (λ r (t : RowProof). HasTreeWith ls r t.outcome) (row ∷ rows) (shared_rows (length lines) table (s ∷ saids))) joined
+        subst (λ (ls : List LineParts). AllZip (λ r (t : RowProof). HasTreeWith ls r t.outcome) (row ∷ rows) (shared_rows (length lines) table (s ∷ saids)))
+            joined
             (tree-more (shared ++ more) rest row (shared_outcome (length lines) table s.outcome) has, later),
       )
 
@@ -102,14 +109,18 @@ module _ (survey : SurveyParts) (terms : Terms) (ends : List RowEnd) (history : 
   even : length (normal_lines_of survey) ≡ length (kept_flags p)
   even = omega (arith, lines-many, length-map p.verdicts is_none)
 
-  pub has-trees : (rows : List (List Value)) → AllZip (λ row (end : RowEnd). HasTree survey (normal_lines_of survey) (rule_flags survey) row end.proof.outcome) rows ends
+  pub has-trees : (rows : List (List Value)) → AllZip (λ row (end : RowEnd). HasTree survey (normal_lines_of survey) (rule_flags survey) row end.proof.outcome)
+      rows ends
       → HasTrees survey rows (written_proof survey terms ends history)
   has-trees rows shown =
-      let own = subst (λ (usable : List Bool). AllZip (λ row (end : RowEnd). HasTree survey (normal_lines_of survey) usable row end.proof.outcome) rows ends) (sym (flags-said (rule_verdicts survey))) shown in
-      let (shared, are, each) = trees-shared survey (normal_lines_of survey) (kept_flags p) even [] [] rows p.rows refl (said-trees survey (normal_lines_of survey) (kept_flags p) rows ends own) in
+      let own = subst (λ (usable : List Bool). AllZip (λ row (end : RowEnd). HasTree survey (normal_lines_of survey) usable row end.proof.outcome) rows ends)
+      (sym (flags-said (rule_verdicts survey))) shown in
+      let (shared, are, each) = trees-shared survey (normal_lines_of survey) (kept_flags p) even [] [] rows p.rows refl
+      (said-trees survey (normal_lines_of survey) (kept_flags p) rows ends own) in
       record {
         shared = shared;
         table = are;
         follow = (table-follows (table_premises survey p) (table_with_rows [] p.rows) shared (normal-over survey) are).0;
-        each = subst (λ (n : ℕ). AllZip (λ row (s : RowProof). HasTree survey (normal_lines_of survey ++ shared) (kept_flags p ++ map (λ (line : LineParts). true) shared) row s.outcome) rows (shared_rows n [] p.rows)) (sym lines-many) each;
+        each = subst (λ (n : ℕ). AllZip (λ row (s : RowProof). HasTree survey (normal_lines_of survey ++ shared)
+            (kept_flags p ++ map (λ (line : LineParts). true) shared) row s.outcome) rows (shared_rows n [] p.rows)) (sym lines-many) each;
       }

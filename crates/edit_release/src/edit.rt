@@ -1,8 +1,12 @@
+//! The edit of a sheet: its records are edited, and what became of them is written as a release. In
+//! contracts, `IsReleaseOf` says that the release is the edit of this sheet on these terms. `HasGuarantee`
+//! says that its files tell ends and claims of which the release guarantee holds. By that each record that
+//! is released is a correction of least weight.
 ghost use Rattle.std.specs.Prelude.{◌≡◌, ◌<◌, ◌≤◌, ◌↔◌, ℕ, List, IfOk, IfSome, IsTrue, length};
 ghost use Rattle.std.specs.List.{AllByRecursion, AllZip};
 ghost use Rattle.donor_measure.specs.Measures.{Measures};
 ghost use Rattle.donor_measure.specs.Yardsticks.{yardsticks_of};
-ghost use Rattle.edit_model.specs.PlainNumbers.{HasPlain};
+ghost use Rattle.edit_model.specs.PlainNumbers.{HasPlainNumbers};
 ghost use Rattle.record_text.specs.Sheets.{IsSheet};
 ghost use Rattle.pruned_rules.specs.Pruned.{kept_edits, rule_verdicts};
 ghost use Rattle.record_ends.specs.Ends.{IsEndOf};
@@ -28,11 +32,11 @@ use std::alloc::Global;
 use std::sync::Wait;
 use std::thread::Threads;
 
-/// The edit of a sheet of the survey's records on these terms: a budget from 1 to 1,000,000,000, a limit from 1 to
-/// 1,000, 1 to 64 donors that a record ranks, and a field of the survey by which records are in imputation classes, or
-/// none. Lines of the rules that follow from the others are dropped first, and the records are searched by those that
-/// are kept, by 1 to 64 workers side by side; the gate is told of each record that one draws. The measure, by which the nearest donors are found, is one of the survey, and the numbers of the
-/// records have numerators below 10^21 and denominators of at most 10^6.
+/// The edit of a sheet of the survey's records, by 1 to 64 workers side by side. Lines of the rules that
+/// follow from the others are dropped first, and the records are searched by those that are kept. The terms
+/// are a budget from 1 to 1,000,000,000, a limit from 1 to 1,000, and 1 to 64 donors that a record ranks
+/// (`AreTerms`). The gate is told of each record that a worker draws. The measure is one of the survey. The
+/// records' numbers are plain: numerators below 10^21, denominators of at most 10^6.
 pub fn edit_sheet<
     R: Threads + Wait + Sync,
     F: Fn(u32, &Value, &Value) -> u64 + Send + Sync,
@@ -48,7 +52,7 @@ pub fn edit_sheet<
     gate: &G,
 ) -> Result<Release, OutOfMemory>
     requires read { (bytes : List ℕ) × IsSheet survey.fields bytes sheet }
-    requires plain { AllByRecursion HasPlain sheet.rows }
+    requires plain { AllByRecursion HasPlainNumbers sheet.rows }
     requires measures { Measures F.Fn measure.closure measure.yardsticks }
     requires yardsticks { measure.yardsticks ≡ yardsticks_of survey.fields }
     requires terms { AreTerms terms }
@@ -78,8 +82,8 @@ pub fn edit_sheet<
     )
 }
 
-// What is released of the records of a sheet, where the lines of the rules were dropped so, the records ended so, and
-// donors were claimed so.
+// What is released of the records of a sheet: the texts of all files and the summary. The verdicts are
+// those on the lines of the rules, and the ends and the history of claims are those of the records.
 fn release_of(
     alloc: Global,
     survey: &Survey,
@@ -117,7 +121,7 @@ fn release_of(
     })
 }
 
-// Whether each record was given values.
+// Whether each record was given values, so that every one is released.
 fn are_given(ends: &[RowEnd]) -> bool
     ensures { IsTrue result ↔ AllGiven ends.now }
 {

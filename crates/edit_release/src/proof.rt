@@ -1,4 +1,4 @@
-//! The proof of an edit.
+//! The proof of an edit, made of its verdicts, ends and claims.
 ghost use Rattle.std.specs.Prelude.{◌≡◌, [], IfOk, None, map};
 ghost use Rattle.bound_cert.specs.declared.outcome.Outcome.TheVariants.{Change};
 ghost use Rattle.edit_release.specs.Edits.{proof_telling, refutation_by, said, said_of};
@@ -13,8 +13,9 @@ use record_editing::Terms;
 use redundancy::Verdict;
 use std::alloc::Global;
 
-/// The proof of an edit on these terms, in which the lines of the rules were dropped so, the records ended so, and
-/// donors were claimed so. It is of version 1: each tree derives its own lines.
+/// The proof of an edit on these terms. It tells the verdicts on the lines of the rules, the ends of the
+/// records, and the history of claims. It is of version 1: each tree derives its own lines, and its table
+/// is empty.
 pub(crate) fn proof_of(
     alloc: Global,
     verdicts: Vec<Verdict>,
@@ -36,7 +37,8 @@ pub(crate) fn proof_of(
     })
 }
 
-// What is said of each line of the rules.
+// What the proof says of each line of the rules, in order: the steps that refute its negation, or nothing
+// where it is kept.
 fn all_refuted(
     alloc: Global,
     verdicts: Vec<Verdict>,
@@ -46,7 +48,8 @@ fn all_refuted(
     Ok(verdicts.into_iter().map(refutation_by).collect(alloc)?)
 }
 
-// What is said of a line: the steps that refute its negation, if it is dropped.
+// What the proof says of a line: the steps that refute its negation, if it is dropped. None where it is
+// kept.
 fn refutation_by(verdict: Verdict) -> Option<Sequence<Step>>
     ensures { result ≡ refutation_by verdict }
 {
@@ -56,7 +59,7 @@ fn refutation_by(verdict: Verdict) -> Option<Sequence<Step>>
     }
 }
 
-// What is said of each record.
+// What the proof says of each record, in order.
 fn all_said(alloc: Global, ends: Vec<RowEnd>) -> Result<Vec<RowProof>, OutOfMemory>
     ensures { IfOk result (λ rows. rows.items ≡ map said ends.items) }
 {
@@ -67,7 +70,8 @@ fn all_said(alloc: Global, ends: Vec<RowEnd>) -> Result<Vec<RowProof>, OutOfMemo
     )
 }
 
-// What is said of a record. A clean record, whose change weighs nothing, is said to change no fields.
+// What the proof says of a record. A clean record, whose change weighs nothing, is written with the empty
+// path. Any other is said as it ended.
 fn said(alloc: Global, proof: RowProof) -> RowProof
     ensures { result ≡ said_of proof.outcome proof.gift }
 {
@@ -84,7 +88,7 @@ fn said(alloc: Global, proof: RowProof) -> RowProof
     }
 }
 
-// A change of no fields.
+// What is said of a clean record: a change of no fields, with the empty path.
 fn clean(alloc: Global, cert: Cert) -> RowProof
     ensures outcome { result.outcome ≡ Change [] 0 cert }
     ensures gift { result.gift ≡ None }

@@ -1,5 +1,7 @@
-/// What an edit of a sheet gives: the bytes of its three files, its summary lines, and whether every record was
-/// released.
+//! What an edit gives, before it is written to files.
+
+/// What an edit of a sheet gives: the bytes of its three files, its two summary lines, and whether every
+/// record was released (`whole`).
 #[derive(Debug, Drop)]
 pub struct Release {
     pub proof: Vec<u8>,

@@ -21,12 +21,14 @@ none-weighs fields = sym (weight-of_word fields [] ∙ ap (sum_by (weight_at fie
 
 module _ {X : Type 0} (w : X → ℕ) (test : X → Bool) (xs : List X) where
   -- one element more
-  pub weighs-more : (i : ℕ) (x : X) (sum added : ℕ) → i < length xs → x ≡ get_or xs i x → added ≡ (if test x then w x else 0) → sum ≡ sum_by w (filter test (take i xs)) → sum + added ≡ sum_by w (filter test (take (i + 1) xs))
+  pub weighs-more : (i : ℕ) (x : X) (sum added : ℕ) → i < length xs → x ≡ get_or xs i x → added ≡ (if test x then w x else 0) → sum
+      ≡ sum_by w (filter test (take i xs)) → sum + added ≡ sum_by w (filter test (take (i + 1) xs))
   weighs-more i x sum added below is put before = by (test x) refl
     where
       longer : sum_by w (filter test (take (i + 1) xs)) ≡ sum + sum_by w (filter test (x ∷ []))
       longer =
-          ap (λ (ys : List X). sum_by w (filter test ys)) (take_more xs i x below ∙ ap (λ (y : X). take i xs ++ y ∷ []) (sym is)) ∙ ap (sum_by w) (filter-append test (take i xs) (x ∷ []))
+          ap (λ (ys : List X). sum_by w (filter test ys)) (take_more xs i x below ∙ ap (λ (y : X). take i xs ++ y ∷ []) (sym is))
+          ∙ ap (sum_by w) (filter-append test (take i xs) (x ∷ []))
           ∙ sum_by-append w (filter test (take i xs)) (filter test (x ∷ []))
           ∙ ap (λ n. n + sum_by w (filter test (x ∷ []))) (sym before)
 

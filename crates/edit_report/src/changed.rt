@@ -1,4 +1,5 @@
-//! The fields that a path changes.
+//! The fields that a path changes. A path has a letter for each of the first fields in path order: true for
+//! a changed field, false for a kept one.
 ghost use Rattle.std.specs.Prelude.{◌≡◌, ◌<◌, ◌≤◌, ◌==◌, ◌&&◌, ◌||◌, ◌++◌, ◌∷◌, [], All, ℕ, IfOk, OnOk, false, if◌then◌else◌, length, slice_index_or};
 ghost use Rattle.edit_model.specs.FieldSets.{has_number};
 ghost use Rattle.bound_cert.specs.Paths.{changes};
@@ -10,7 +11,8 @@ use edit_model::{FieldSet, Survey};
 use foundation::OutOfMemory;
 use std::alloc::Global;
 
-/// The path at which a search ended, the empty one where it ended without one. No memory.
+/// The letters of the path at which a search ended. They are none where the record was found contradictory,
+/// as that search ends at no path. No memory.
 pub(crate) fn path_found(outcome: &Outcome) -> &[bool]
     ensures { result.now ≡ path_found outcome.now }
 {
@@ -22,14 +24,14 @@ pub(crate) fn path_found(outcome: &Outcome) -> &[bool]
     }
 }
 
-/// Whether the path keeps all its fields. No memory.
+/// Whether the path keeps all fields of which it says something. No memory.
 pub(crate) fn all_kept(path: &[bool]) -> bool
     ensures { result ≡ all_kept path.now }
 {
     path.iter().all(|changed| !*changed)
 }
 
-/// The set of the fields that the path changes. No memory.
+/// The set of the fields that the path changes. Those of which it says nothing are not in it. No memory.
 pub(crate) fn changed_set(survey: &Survey, path: &[bool]) -> FieldSet
     requires { length path.now ≤ length survey.now.fields }
     ensures { (f : ℕ) → has_number result f ≡ changes survey.now.fields path.now f }
@@ -45,7 +47,7 @@ pub(crate) fn changed_set(survey: &Survey, path: &[bool]) -> FieldSet
     set
 }
 
-/// The fields that the path changes, in path order.
+/// The fields that the path changes, in path order: the order of their lines in the reasons file.
 pub(crate) fn changed_fields(
     alloc: Global,
     survey: &Survey,
@@ -65,7 +67,7 @@ pub(crate) fn changed_fields(
     Ok(changed)
 }
 
-// The set, with the field where it is changed.
+// The set, with this field too where `changed` is true.
 fn with_changed(set: FieldSet, field: u32, changed: bool) -> FieldSet
     requires { field < 64 }
     ensures { (f : ℕ) → has_number result f ≡ (has_number set f || ((field == f) && changed)) }
@@ -73,7 +75,7 @@ fn with_changed(set: FieldSet, field: u32, changed: bool) -> FieldSet
     if changed { set.with(field) } else { set }
 }
 
-// Puts the field last where it is changed.
+// Appends the field where `changed` is true.
 fn push_if(changed: bool, fields: &mut Vec<u32>, field: u32) -> Result<(), OutOfMemory>
     ensures { OnOk result (fields.new.items ≡ (if changed then fields.old.items ++ field ∷ [] else fields.old.items)) }
 {
@@ -83,7 +85,8 @@ fn push_if(changed: bool, fields: &mut Vec<u32>, field: u32) -> Result<(), OutOf
     Ok(())
 }
 
-// Whether the letter at the place is there, and says that its field is changed.
+// Whether the path changes the field at this place in path order. False where the path is so short that it
+// says nothing of it.
 fn is_changed(path: &[bool], place: usize) -> bool
     ensures { result ≡ slice_index_or path.now place false }
 {

@@ -1,4 +1,5 @@
-//! Why a record is not released, in a few words.
+//! Why a record is not released, in a few words of the reasons file. Places are counted from 0 in the code,
+//! and told from 1.
 ghost use Rattle.std.specs.Prelude.{◌≡◌, ◌<◌, ◌++◌, IfOk, IfSome, None, OnOk, codes, decimal, length};
 ghost use Rattle.bound_cert.specs.Paths.{named, path_text};
 ghost use Rattle.edit_report.specs.Reasons.{cause_text, detail_text, event_text, giving_text, name_of, place_text};
@@ -10,7 +11,8 @@ use foundation::OutOfMemory;
 use itoa::Buffer;
 use std::alloc::Global;
 
-/// The cause. No memory.
+/// The word for why a record is not released, in the column `cause` of the reasons file. A change comes here
+/// where its fields were given no values, since a number left the range. No memory.
 pub(crate) fn cause_text(outcome: &Outcome) -> &'static [u8]
     ensures { result.now ≡ cause_text outcome.now }
 {
@@ -21,7 +23,8 @@ pub(crate) fn cause_text(outcome: &Outcome) -> &'static [u8]
     }
 }
 
-/// Where the search or the giving of values ended.
+/// Where the search or the giving of values ended, in words for the column `detail` of the reasons file. No
+/// bytes for a contradictory record.
 pub(crate) fn detail_text(
     alloc: Global,
     survey: &Survey,
@@ -37,7 +40,8 @@ pub(crate) fn detail_text(
     }
 }
 
-// At which path the search ended for want of work, and the work before it.
+// The path before which the search ended, as its work would pass the budget, and the work done before it:
+// `path P work N`.
 fn budget_text(alloc: Global, path: &Path, work: u64) -> Result<Vec<u8>, OutOfMemory>
     ensures { IfOk result (λ text. text.items ≡ codes "path " ++ (path_text path.now ++ (codes " work " ++ decimal work))) }
 {
@@ -48,7 +52,8 @@ fn budget_text(alloc: Global, path: &Path, work: u64) -> Result<Vec<u8>, OutOfMe
     Ok(text)
 }
 
-// At which path a number left the range, and at which lines.
+// The path at which a number left the range in the search, as `path P`, and behind it what [`push_event`]
+// adds.
 fn overflow_text(
     alloc: Global,
     survey: &Survey,
@@ -63,7 +68,8 @@ fn overflow_text(
     Ok(text)
 }
 
-// At which line, or at which rule, a number left the range when values were given.
+// Where a number left the range when values were given: `giving F line N`, with the field's name, or
+// `giving rule N`. No bytes where there is no fault.
 fn giving_text(
     alloc: Global,
     survey: &Survey,
@@ -88,7 +94,8 @@ fn giving_text(
     Ok(text)
 }
 
-// Adds the lines at which a number left the range, and the field there.
+// Adds where a number left the range in the search. For two lines that were combined it adds
+// ` lines N M at F`. For a line at the record it adds ` line N at F`.
 fn push_event(text: &mut Vec<u8>, survey: &Survey, event: &Event) -> Result<(), OutOfMemory>
     ensures { OnOk result (text.new.items ≡ text.old.items ++ event_text survey.now.fields event.now) }
 {
@@ -115,7 +122,7 @@ fn push_event(text: &mut Vec<u8>, survey: &Survey, event: &Event) -> Result<(), 
     }
 }
 
-// Adds the name of a place among the numbers of a line.
+// Adds the name of a place among the numbers of a line: its field, or `constant`.
 fn push_place(text: &mut Vec<u8>, survey: &Survey, place: &Place) -> Result<(), OutOfMemory>
     ensures { OnOk result (text.new.items ≡ text.old.items ++ place_text survey.now.fields place.now) }
 {
@@ -134,7 +141,7 @@ fn push_number(text: &mut Vec<u8>, place: u64) -> Result<(), OutOfMemory>
     Ok(())
 }
 
-/// The number of a place that is counted from 0, as it is told: from 1.
+/// The number of a record or a donor that is counted from 0, as it is told: from 1.
 pub(crate) fn number_text(alloc: Global, place: u32) -> Result<Vec<u8>, OutOfMemory>
     ensures { IfOk result (λ text. text.items ≡ named place) }
 {
@@ -143,7 +150,7 @@ pub(crate) fn number_text(alloc: Global, place: u32) -> Result<Vec<u8>, OutOfMem
     Ok(text)
 }
 
-/// The field's name, nothing where there is no such field. No memory.
+/// The name of the field of this number, nothing where there is no such field. No memory.
 pub(crate) fn name_of(survey: &Survey, field: u32) -> &[u8]
     ensures { result.now ≡ name_of survey.now.fields field }
 {

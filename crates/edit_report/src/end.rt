@@ -1,8 +1,10 @@
+//! What became of a record, from which all that a run tells of it is made.
 use back_subst::Gift;
 use bound_cert::RowProof;
 
-/// What became of a record: what was found, with why no values were given where a number left the range; its
-/// donor's number, from 0; and the values that it was given.
+/// What became of a record. `proof` has what was found, and why no values were given where a number left
+/// the range then. `donor` is its donor's number, from 0, if it has one. `gift` has the values that it was
+/// given, and is None for a record that is not released.
 #[derive(Debug, Drop)]
 pub struct RowEnd {
     pub proof: RowProof,

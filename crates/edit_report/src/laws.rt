@@ -1,8 +1,10 @@
+//! What the files of a run say of all records together, as laws that compute nothing. A proof that needs
+//! them calls the function.
 ghost use Rattle.edit_report.specs.Laws.{ChangedCountLaw, CleanLaw, ReleasedCountLaw, UnresolvedLaw};
 
-/// What the files say of all records together: each record that was given values has a row in the released
-/// file; a clean one is released as it was read and has no line in the reasons file, a changed one has a line
-/// there for each changed field, and one that was given no values has one line.
+/// Four laws; nothing is computed. The released file has one row for each record that was given values. A
+/// clean record is released as it was read, and has no line in the reasons file. One with values has a line
+/// there for each changed field; one without has no row, and one line.
 pub fn report_laws()
     ensures released { ReleasedCountLaw }
     ensures clean { CleanLaw }

@@ -1,3 +1,6 @@
+//! Where the fields of a survey stand in the rows of a file. In contracts, `IsLayout` says that each field
+//! has a column, which may be past the width of the rows. `AreFieldsIn` says that a list has the field of
+//! each column.
 ghost use Rattle.std.specs.Prelude.{◌≡◌, ◌<◌, IfOk, length, slice_index_or};
 ghost use Rattle.edit_report.specs.Layouts.{field_in};
 ghost use Rattle.edit_report.specs.inner.Columns.{AreFieldsIn};
@@ -7,7 +10,8 @@ use record_text::Sheet;
 use std::alloc::Global;
 use std::marker::Model;
 
-/// Which field stands in which column of a sheet's rows, both ways.
+/// Which field stands in which column of a file's rows, both ways: for each field its column, and for each
+/// column its field.
 #[derive(Debug, Drop)]
 pub struct Layout {
     columns: Sequence<u32>,
@@ -27,7 +31,7 @@ impl Model for Layout {
 }
 
 impl Layout {
-    /// The layout of the sheet's rows.
+    /// The layout of the rows of a sheet that was read.
     pub fn of_sheet(alloc: Global, sheet: &Sheet) -> Result<Layout, OutOfMemory>
         ensures width { IfOk result (λ layout. layout.width ≡ length sheet.now.header) }
         ensures columns { IfOk result (λ layout. layout.columns ≡ sheet.now.columns) }
@@ -36,8 +40,8 @@ impl Layout {
         Layout::of_columns(alloc, sheet.header().len(), columns)
     }
 
-    /// The layout of rows of this width, with the column of each field. A field whose column is past the width does not stand in
-    /// the rows.
+    /// The layout of rows of `width` columns, where `columns` has the column of each field. A field whose
+    /// column is past the width does not stand in the rows.
     pub fn of_columns(alloc: Global, width: usize, columns: Vec<u32>) -> Result<Layout, OutOfMemory>
         ensures width { IfOk result (λ layout. layout.width ≡ width) }
         ensures columns { IfOk result (λ layout. layout.columns ≡ columns.items) }
@@ -49,7 +53,7 @@ impl Layout {
         })
     }
 
-    /// The number of the field that stands in the column, if one does. No memory.
+    /// The number of the field that stands in the column; None for a further column. No memory.
     pub(crate) fn field_at(&self, column: usize) -> Option<usize>
         requires { column < self.now.width }
         ensures { result ≡ field_in self.now.columns column }
@@ -57,7 +61,8 @@ impl Layout {
         self.fields[column]
     }
 
-    /// The column of a field. No memory.
+    /// The column of the field of this number, from 0. It is past the width where the field does not stand
+    /// in the rows. No memory.
     pub(crate) fn column(&self, field: u32) -> usize
         requires { field < length self.now.columns }
         ensures { result ≡ slice_index_or self.now.columns field 0 }
@@ -65,7 +70,7 @@ impl Layout {
         self.columns.as_slice()[field as usize] as usize
     }
 
-    /// How many columns there are. No memory.
+    /// How many columns the rows have. No memory.
     pub(crate) fn width(&self) -> usize
         ensures { result ≡ self.now.width }
     {
@@ -73,7 +78,8 @@ impl Layout {
     }
 }
 
-// For each column of a row of this width, the field that stands there.
+// For each column of rows of this width, the number of the field that stands there, if one does. `columns`
+// has the column of each field, in declared order.
 fn fields_of(
     alloc: Global,
     columns: &[u32],
@@ -89,7 +95,7 @@ fn fields_of(
     Ok(fields)
 }
 
-// The field that has the column.
+// The field whose column this is, where `columns` has the column of each field; None for a further column.
 fn field_at(columns: &[u32], column: usize) -> Option<usize>
     ensures { result ≡ field_in columns.now column }
 {

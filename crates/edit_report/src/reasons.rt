@@ -1,4 +1,6 @@
-//! The reasons file.
+//! The reasons file. For each changed field it tells what was there before and after, and how the new value
+//! was found. For each record that is not released it tells why. In contracts, `IsEnd` says that the values
+//! given are those of the path that was found. `records_text` is records as a CSV file has them.
 ghost use Rattle.std.specs.Prelude.{◌≡◌, ◌<◌, ◌++◌, ◌∷◌, [], ℕ, List, IfOk, OnOk, length, slice_index_or};
 ghost use Rattle.record_text.specs.Sheets.{IsSheet};
 ghost use Rattle.record_text.specs.Texts.{records_text};
@@ -20,7 +22,8 @@ use foundation::OutOfMemory;
 use record_text::{RecordWriter, Sheet, Texts};
 use std::alloc::Global;
 
-/// A record: its number, from 0, its texts, and what became of it.
+/// A record as the reasons file tells of it: its number, from 0, the texts that were read, and what became
+/// of it.
 #[derive(Drop)]
 pub struct Record<'a> {
     pub number: u32,
@@ -28,8 +31,9 @@ pub struct Record<'a> {
     pub end: &'a RowEnd,
 }
 
-/// The bytes of the reasons file: its header, and then, in order, one line for each changed field of a
-/// record that was given values, in path order, and one for each record that was not.
+/// The bytes of the reasons file: its header, and then the lines of each record, in the records' order. A
+/// record that was given values has one for each changed field, in path order; one that was not has one.
+/// `ends` has what became of each record of the sheet.
 pub fn reasons_text(
     alloc: Global,
     sheet: &Sheet,
@@ -54,7 +58,7 @@ pub fn reasons_text(
     Ok(writer.into_bytes())
 }
 
-/// Writes the header of the reasons file.
+/// Writes the header of the reasons file, the names of its seven columns.
 pub fn push_reasons_header(writer: &mut RecordWriter) -> Result<(), OutOfMemory>
     ensures { OnOk result (writer.new ≡ writer.old ++ records_text (reasons_header ∷ [])) }
 {
@@ -63,7 +67,8 @@ pub fn push_reasons_header(writer: &mut RecordWriter) -> Result<(), OutOfMemory>
     ])
 }
 
-/// Writes the lines of a record: one for each field that is changed, in path order, and one for a record that was given no values.
+/// Writes the lines of a record: one for each field that is changed, in path order. A record that was given
+/// no values has one line, and a clean one none.
 pub fn push_reasons(
     alloc: Global,
     writer: &mut RecordWriter,
@@ -83,7 +88,8 @@ pub fn push_reasons(
     }
 }
 
-// Writes the line of a record that was given no values.
+// Writes the line of a record that was given no values: why, and where the search or the giving of values
+// ended.
 fn push_unresolved(
     alloc: Global,
     writer: &mut RecordWriter,
@@ -97,7 +103,8 @@ fn push_unresolved(
     push_cause(alloc, writer, number, cause_text(&found.outcome), &detail)
 }
 
-/// Writes the line of a record that is not released for this cause. Its number is counted from 0.
+/// Writes the line of a record that is not released for this cause, with this detail. Its number is counted
+/// from 0, and told from 1.
 pub fn push_cause(
     alloc: Global,
     writer: &mut RecordWriter,
@@ -111,7 +118,8 @@ pub fn push_cause(
     writer.push_slices(&[&number, cause, b"", b"", b"", b"", detail])
 }
 
-// Writes the lines of the fields that a record's path changes.
+// Writes the lines of the fields that a record's path changes, in path order. The gift has the new values,
+// and how that at each changed field was found, in the same order (`IsGift`).
 fn push_changes(
     alloc: Global,
     writer: &mut RecordWriter,
@@ -143,7 +151,8 @@ fn push_changes(
     Ok(())
 }
 
-// Writes the line of a changed field.
+// Writes the line of a changed field of the record `row`, whose values are now those of `new`. `how` says
+// how the one at this field was found.
 fn push_change(
     alloc: Global,
     writer: &mut RecordWriter,
@@ -169,7 +178,8 @@ fn push_change(
     push_line(writer, &number, name, before, &after, &donor, how_text(how))
 }
 
-// The text of a column, nothing where there is no such column. No memory.
+// The text that was read in a column, empty where there is no such column: a field of a panel's other file
+// has none here. No memory.
 fn text_in(texts: &Texts, column: usize) -> &[u8]
     ensures { result.now ≡ slice_index_or texts.now column [] }
 {
@@ -180,7 +190,8 @@ fn text_in(texts: &Texts, column: usize) -> &[u8]
     }
 }
 
-// Writes a line of a changed field.
+// Writes a line of a changed field. Its columns have the record's number, the cause `changed`, and the
+// field's name with its text before and after. Then come the donor's number and how the value was found.
 fn push_line<'a>(
     writer: &mut RecordWriter,
     number: &'a [u8],
@@ -196,7 +207,8 @@ fn push_line<'a>(
     writer.push_slices(&[number, b"changed", name, before, after, donor, how])
 }
 
-// The donor's number, nothing where there is none.
+// The number of the donor of this number, from 0, as it is told: from 1. An empty text where there is no
+// donor.
 fn donor_text(alloc: Global, donor: Option<u32>) -> Result<Vec<u8>, OutOfMemory>
     ensures { IfOk result (λ text. text.items ≡ donor_text donor) }
 {
@@ -206,7 +218,7 @@ fn donor_text(alloc: Global, donor: Option<u32>) -> Result<Vec<u8>, OutOfMemory>
     }
 }
 
-// How a value was found.
+// The word for how a value was found.
 fn how_text(how: How) -> &'static [u8]
     ensures { result.now ≡ how_text how }
 {

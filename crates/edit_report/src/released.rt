@@ -1,4 +1,7 @@
-//! The released file.
+//! The released file: the records that were given values, with the texts of these. In contracts, `IsLayout`
+//! says that each field has a column, and `IsEnd` that the values given are those of the path that was
+//! found. `records_text` is records as a CSV file has them, and `texts_from` the texts of a row from a
+//! column on.
 ghost use Rattle.std.specs.Prelude.{◌≡◌, ◌<◌, ◌≤◌, ◌++◌, ◌∷◌, [], ℕ, List, Some, IfOk, OnOk, length};
 ghost use Rattle.edit_model.specs.FieldSets.{has_number};
 ghost use Rattle.edit_model.specs.Rows.{IsRow};
@@ -20,7 +23,7 @@ use std::alloc::Global;
 
 /// The bytes of the released file: the header as it was read, and then, in order, one row for each record
 /// that was given values. A changed field has the text of its new value, every other column the bytes that
-/// were read.
+/// were read. `ends` has what became of each record of the sheet.
 pub fn released_text(
     alloc: Global,
     sheet: &Sheet,
@@ -41,7 +44,8 @@ pub fn released_text(
     Ok(writer.into_bytes())
 }
 
-/// Writes the row of a record that was given values, and none of another.
+/// Writes the row of a record that was given values; nothing for one that was not. `read` has the texts of
+/// the record as it was read.
 pub fn push_released(
     alloc: Global,
     writer: &mut RecordWriter,
@@ -64,7 +68,8 @@ pub fn push_released(
     }
 }
 
-// Writes the row of a record that was given values. One that keeps all its own is not copied.
+// Writes the row of a record that has the values of `new` at the fields that the path changes. `read` has
+// its texts before. Where all fields are kept, these are written without a copy.
 fn push_row(
     alloc: Global,
     writer: &mut RecordWriter,
@@ -88,7 +93,8 @@ fn push_row(
     writer.push(&texts)
 }
 
-// The row's texts afterwards, column by column.
+// The texts of a record afterwards, column by column. A field that the path changes has the text of its
+// value in `new`, and every other column the one that was read.
 fn released_texts(
     alloc: Global,
     survey: &Survey,
@@ -106,8 +112,8 @@ fn released_texts(
     row_texts(alloc, survey, layout, read, changed_set(survey, path), new)
 }
 
-/// The texts of a record afterwards, column by column: that of the new value at each field of the set, and every other
-/// as it was read.
+/// The texts of a record afterwards, column by column. A field of the set `changed` has the text of its new
+/// value, and every other column the one that was read.
 pub fn row_texts(
     alloc: Global,
     survey: &Survey,
@@ -130,7 +136,8 @@ pub fn row_texts(
     Ok(texts)
 }
 
-// Adds the text of one column.
+// Appends the text of one column of a row that was `read`: a further column keeps its text, and a field has
+// what [`push_text`] says.
 fn push_column(
     alloc: Global,
     texts: &mut Texts,
@@ -154,7 +161,8 @@ fn push_column(
     }
 }
 
-// Adds the text of the field's new value where the field is changed, and else the one that was read.
+// Appends the text of the field's value in `new` where the field is changed, and else the one that was
+// read.
 fn push_text(
     alloc: Global,
     texts: &mut Texts,

@@ -1,4 +1,5 @@
-//! The summary lines.
+//! The summary lines that a run prints: `records N clean N changed N unresolved N weight N`, and
+//! `claims N given N`. In contracts, `IsEnd` says that the values given are those of the path that was found.
 ghost use Rattle.std.specs.Prelude.{◌≡◌, ◌≤◌, IfOk, if◌then◌else◌, length, map, not};
 ghost use Rattle.std.specs.List.{AllByRecursion, filter, sum_by};
 ghost use Rattle.bound_cert.specs.Paths.{path_weight};
@@ -14,9 +15,9 @@ use edit_model::Survey;
 use foundation::OutOfMemory;
 use std::alloc::Global;
 
-/// Two lines without their line feeds: how many records there are, how many of them are clean, changed and not
-/// resolved, and the sum of the weights of the changed ones; and how many claims of donors there are, and how many
-/// of them were given one.
+/// Two lines without their line feeds. The first tells how many records there are, how many of them are
+/// clean, changed and not resolved, and the weights of the changes together. The second tells how many
+/// claims of donors the history has, and how many of them were given one.
 pub fn summary_text(
     alloc: Global,
     survey: &Survey,
@@ -32,7 +33,7 @@ pub fn summary_text(
     ])
 }
 
-// How many claims there are, and how many of them were given a donor.
+// The line of the claims: how many there are, and how many of them were given a donor.
 fn claims_line(alloc: Global, history: &[Entry]) -> Result<Vec<u8>, OutOfMemory>
     ensures { IfOk result (λ text. text.items ≡ claims_of history.now) }
 {
@@ -48,7 +49,8 @@ fn is_given(entry: &Entry) -> bool
     entry.reply.is_some()
 }
 
-// How many records there are and how many of each kind, and what the changes weigh together.
+// The line of the records: how many there are and how many of each kind, and what the changes weigh
+// together.
 fn records_line(alloc: Global, survey: &Survey, ends: &[RowEnd]) -> Result<Vec<u8>, OutOfMemory>
     requires { AllByRecursion (IsEnd survey.now.fields) ends.now }
     ensures { IfOk result (λ text. text.items ≡ summary_of survey.now ends.now) }
@@ -60,8 +62,8 @@ fn records_line(alloc: Global, survey: &Survey, ends: &[RowEnd]) -> Result<Vec<u
     summary_line(alloc, ends.len(), clean, changed, unresolved, weight)
 }
 
-/// A line without its line feed: how many records there are, how many of them are clean, changed and not resolved, and the sum of
-/// the weights of the changed ones.
+/// The line of the records, without its line feed: how many there are, and how many of them are clean,
+/// changed and not resolved. The weight is the sum of the weights of the changes.
 pub fn summary_line(
     alloc: Global,
     records: usize,
@@ -77,7 +79,7 @@ pub fn summary_line(
     )?.into_bytes())
 }
 
-// What the changes weigh together. No memory.
+// What the changes of all changed records weigh together. No memory.
 fn weight_of_changes(survey: &Survey, ends: &[RowEnd]) -> u128
     requires { AllByRecursion (IsEnd survey.now.fields) ends.now }
     ensures { result ≡ sum_by (weight_of survey.now.fields) (filter is_changed ends.now) }
@@ -89,7 +91,7 @@ fn weight_of_changes(survey: &Survey, ends: &[RowEnd]) -> u128
     weight
 }
 
-// What the record's change weighs, if it is changed. No memory.
+// What the record's change weighs; 0 where it was given no values, or keeps all its own. No memory.
 fn changed_weight(survey: &Survey, end: &RowEnd) -> u64
     requires { IsEnd survey.now.fields end.now }
     ensures { result ≡ (if is_changed end.now then weight_of survey.now.fields end.now else 0) }
@@ -100,7 +102,8 @@ fn changed_weight(survey: &Survey, end: &RowEnd) -> u64
     }
 }
 
-// What the path at which a search ended weighs, nothing where it keeps all fields. No memory.
+// What the path at which a search ended weighs: the sum of the weights of the fields that it changes. It is
+// 0 where it keeps all fields, or there is none. No memory.
 fn path_weight(survey: &Survey, outcome: &Outcome) -> u64
     requires { length (path_found outcome.now) ≤ length survey.now.fields }
     ensures { result ≡ (if not (all_kept (path_found outcome.now)) then path_weight survey.now.fields (path_found outcome.now) else 0) }
@@ -123,7 +126,7 @@ fn is_clean(end: &RowEnd) -> bool
     end.gift.is_some() && all_kept(path_found(&end.proof.outcome))
 }
 
-// Whether the record was given other values. No memory.
+// Whether the record was given values, and its path changes some field. No memory.
 fn is_changed(end: &RowEnd) -> bool
     ensures { result ≡ is_changed end.now }
 {

@@ -1,4 +1,4 @@
-//! The text of a value.
+//! The text that a value has in a file.
 ghost use Rattle.std.specs.Prelude.{◌≡◌, ◌<◌, [], IfOk, length, slice_index_or};
 ghost use Rattle.edit_model.specs.Rows.{IsRow};
 ghost use Rattle.edit_report.specs.Released.{given_text, value_text};
@@ -7,7 +7,8 @@ use edit_model::{Kind, Name, Row, Survey, Value};
 use foundation::OutOfMemory;
 use std::alloc::Global;
 
-/// The text of a record's value at the field of this number.
+/// The text of a record's value at the field of this number: a number's canonical spelling, or a code's
+/// name. Nothing where the record has no value there.
 pub(crate) fn text_at(
     alloc: Global,
     survey: &Survey,
@@ -22,7 +23,7 @@ pub(crate) fn text_at(
     value_text(alloc, &fields[field as usize].kind, row.value(field))
 }
 
-// The text of a value of a field.
+// The text of a value of a field of this kind. Nothing for no value, or for a code at a numerical field.
 fn value_text(alloc: Global, kind: &Kind, value: &Value) -> Result<Vec<u8>, OutOfMemory>
     ensures { IfOk result (λ text. text.items ≡ value_text kind.now value.now) }
 {
@@ -33,7 +34,7 @@ fn value_text(alloc: Global, kind: &Kind, value: &Value) -> Result<Vec<u8>, OutO
     }
 }
 
-// A copy of the code's bytes. A code past the field's codes has none.
+// A copy of the bytes of the code of this number; nothing where the field has fewer codes.
 fn code_text(alloc: Global, codes: &[Name], code: u8) -> Result<Vec<u8>, OutOfMemory>
     ensures { IfOk result (λ text. text.items ≡ slice_index_or codes.now code []) }
 {

@@ -1,4 +1,5 @@
-use Rattle.std.proofs.Common.{◌≡◌, ℕ, zero, suc, ◌+◌, ◌<◌, ◌++◌, Bool, true, false, List, [], ◌∷◌, All, Option, Some, None, IfSome, IsSomeAnd, ◌==◌, length, map, inl, inr}
+use Rattle.std.proofs.Common.{◌≡◌, ℕ, zero, suc, ◌+◌, ◌<◌, ◌++◌, Bool, true, false, List, [], ◌∷◌, All, Option, Some, None, IfSome, IsSomeAnd, ◌==◌, length}
+use Rattle.std.proofs.Common.{map, inl, inr}
 use Rattle.std.proofs.Common.{refl, sym, ap, ◌∙◌, subst, arith}
 use Rattle.std.specs.Prelude.{slice_get}
 use Rattle.std.specs.List.{AllByRecursion, AllZip, range_with_len}
@@ -22,14 +23,16 @@ use Rattle.bound_cert.specs.declared.outcome.Outcome.{Outcome}
 use Rattle.bound_cert.specs.declared.outcome.Outcome.TheVariants as outcome
 use Rattle.class_books.specs.Histories.{history_in}
 use Rattle.record_pieces.specs.Classes.{IsDonorIn, class_count}
-use Rattle.record_pieces.specs.Needs.{AnswersNeeds, AreInRowOrder, IsRankingFor, IsRankingOf, Need, Ranks, class_found, need_in, needs_by, needs_of, rows_claimed}
+use Rattle.record_pieces.specs.Needs.{AnswersNeeds, AreInRowOrder, IsRankingFor, IsRankingOf, Need, Ranks, class_found, need_in, needs_by, needs_of}
+use Rattle.record_pieces.specs.Needs.{rows_claimed}
 use Rattle.record_pieces.specs.Rests.{ArePiecesIn, IsPieceIn, class_field_in, rows_in, rows_of}
 use Rattle.record_pieces.specs.declared.piece.Piece.{Piece}
 use Rattle.record_pieces.specs.declared.rest.Rest.{Rest}
 use Rattle.record_pieces.proofs.NeedLaws.{in-other-order, need-from, piece-at, rows-asked}
 use Rattle.record_ends.specs.Givings.{EndsBy, IsEndIn, SaysIn, donor_in}
 use Rattle.record_workers.specs.Workers.{AnswersInClasses, pieces_in}
-use Rattle.record_editing.specs.Donations.{AreDonations, AreInOrder, ComeInClasses, IsClaimIn, IsRanked, claimers_of, claims_in, class_by, class_claimed, end_claims}
+use Rattle.record_editing.specs.Donations.{AreDonations, AreInOrder, ComeInClasses, IsClaimIn, IsRanked, claimers_of, claims_in, class_by, class_claimed}
+use Rattle.record_editing.specs.Donations.{end_claims}
 use Rattle.record_editing.specs.declared.terms.Terms.{Terms}
 use Rattle.record_editing.proofs.OrderLaws.{class-in-order, first-alone}
 
@@ -168,14 +171,16 @@ module _ {F : Type 0} (rest : Rest F) (pieces : List Piece) (are : ArePiecesIn r
         let of = by p (claims_donor p.outcome)
         (ranks-by rest.survey (rows_in rest) (class_field_in rest) rest.near (row_at (rows_in rest) p.row_no) p.outcome (Some e.ranking)
         (subst (IsRankingFor rest.survey (rows_in rest) (class_field_in rest) rest.near (row_at (rows_in rest) p.row_no) p.outcome) ranking is.ranking)) in
-        let mine = subst (λ (n : ℕ). IsRankingOf rest.survey (rows_in rest) (class_field_in rest) rest.near (row_at (rows_in rest) n) (path_found p.outcome) e.ranking) row of in
+        let mine = subst (λ (n : ℕ). IsRankingOf rest.survey (rows_in rest) (class_field_in rest) rest.near (row_at (rows_in rest) n) (path_found p.outcome)
+        e.ranking) row of in
         let told = subst (λ (o : Outcome). IsRankingOf rest.survey (rows_in rest) (class_field_in rest) rest.near (row_at (rows_in rest) e.row_no)
         (path_found o) e.ranking) (sym becomes.outcome) mine in
         subst (λ (o : Option RowEnd). IsSomeAnd o
         (λ (end : RowEnd). IsRankingOf rest.survey (rows_in rest) (class_field_in rest) rest.near (row_at (rows_in rest) e.row_no)
         (path_found end.proof.outcome) e.ranking)) (sym stands) told
       where
-        by : (p : Piece) (b : Bool) → Ranks b rest.survey (rows_in rest) (class_field_in rest) rest.near (row_at (rows_in rest) p.row_no) (path_found p.outcome) (Some e.ranking)
+        by : (p : Piece) (b : Bool) → Ranks b rest.survey (rows_in rest) (class_field_in rest) rest.near (row_at (rows_in rest) p.row_no) (path_found p.outcome)
+            (Some e.ranking)
             → IsRankingOf rest.survey (rows_in rest) (class_field_in rest) rest.near (row_at (rows_in rest) p.row_no) (path_found p.outcome) e.ranking
         by p true ranks = ranks
         by p false none = absurd (cc)
@@ -245,7 +250,8 @@ module _ {F : Type 0} (rest : Rest F) (pieces : List Piece) (are : ArePiecesIn r
       first-class none e there lt =
           let (p, in_pieces, row, ranking, own) = class-piece 1 lt e there in
           let is = in-all (IsPieceIn rest) p pieces are.each in_pieces in
-          let zero = by p.outcome (row_at (rows_in rest) p.row_no) (subst (IsRankingFor rest.survey (rows_in rest) (class_field_in rest) rest.near (row_at (rows_in rest) p.row_no) p.outcome)
+          let zero = by p.outcome (row_at (rows_in rest) p.row_no)
+          (subst (IsRankingFor rest.survey (rows_in rest) (class_field_in rest) rest.near (row_at (rows_in rest) p.row_no) p.outcome)
           ranking is.ranking) in
           let first : p.class ≡ 0 = is.class ∙ ap (λ (f : Option ℕ). class_found rest.survey f (row_at (rows_in rest) p.row_no) p.outcome) none ∙ zero in
           absurd (omega (arith, own, first))

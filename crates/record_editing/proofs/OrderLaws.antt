@@ -1,4 +1,5 @@
-use Rattle.std.proofs.Common.{◌≡◌, ◌≢◌, ◌⊎◌, ℕ, zero, suc, ◌+◌, ◌<◌, ◌==◌, ◌++◌, Bool, true, false, cond, List, [], ◌∷◌, length, inl, inr, refl, sym, ap, ◌∙◌, subst, arith}
+use Rattle.std.proofs.Common.{◌≡◌, ◌≢◌, ◌⊎◌, ℕ, zero, suc, ◌+◌, ◌<◌, ◌==◌, ◌++◌, Bool, true, false, cond, List, [], ◌∷◌, length, inl, inr, refl, sym, ap, ◌∙◌}
+use Rattle.std.proofs.Common.{subst, arith}
 use Rattle.std.proofs.Common.{append-nil}
 use Rattle.std.specs.List.{filter}
 use Rattle.std.proofs.lemmas.Bool.Decides.{Decides-eqb, eqb_tells}
@@ -12,7 +13,8 @@ use Rattle.record_pieces.specs.Needs.{AreInRowOrder}
 -- Claims class by class: those of one class among all.
 
 -- an element of the joined histories is of one of them
-pub in-joined : (e : Entry) (histories : List (List Entry)) → IsIn e (joined histories) → (class : ℕ) × (class < length histories) × IsIn e (history_in class histories)
+pub in-joined : (e : Entry) (histories : List (List Entry)) → IsIn e (joined histories) → (class : ℕ) × (class < length histories)
+    × IsIn e (history_in class histories)
 in-joined e [] there = absurd there
 in-joined e (h ∷ histories) there = by (in-either e h (joined histories) there) (in-joined e histories)
   where

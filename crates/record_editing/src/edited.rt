@@ -1,9 +1,10 @@
+//! What an edit of a sheet's records answers.
 use donor_book::Entry;
 use edit_report::RowEnd;
 use record_pieces::Rest;
 
-/// What became of the records of a sheet: the end of each, in order, the claims of donors class by class, in each in the
-/// order in which they were answered, and by what the records were edited.
+/// What became of the records of a sheet: the end of each, in order. The claims of donors stand class by
+/// class, in each in the order in which they were answered. `rest` is by what the records were edited.
 #[derive(Drop)]
 pub struct Edited<F> {
     pub ends: Vec<RowEnd>,

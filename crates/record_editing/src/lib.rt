@@ -1,6 +1,6 @@
-//! The records of a sheet, edited: for each the least set of fields to change, its donor, and the values that these
-//! fields are given, or why there are none. Begin with [`edit_records`], which lets workers draw the records side by side
-//! and then gives values; who claims which donor is in `specs/Donations.antt`.
+//! The records of a sheet, edited. Each has the least set of fields to change, its donor, and the values
+//! that these fields are given, or why there are none. Begin with [`edit_records`], which lets workers draw
+//! the records side by side and then gives values. Who claims which donor is in `specs/Donations.antt`.
 #![tactic(auto)]
 
 mod edited;

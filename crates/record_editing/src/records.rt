@@ -1,10 +1,14 @@
-//! What becomes of all records, by workers that run side by side.
+//! What becomes of all records of a sheet, by workers that run side by side. In contracts, `IsEndOf` says
+//! that an end is what becomes of its record, and `Says` what it says of corrections. `AreDonations` says
+//! that the claims are a legal history of what the records need, `AreInOrder` that they come in row order.
+//! `HasPlainNumbers` says that numbers are plain: numerators below 10^21, denominators of at most 10^6.
 ghost use Rattle.std.specs.Prelude.{◌≡◌, ◌<◌, ◌≤◌, IfOk, IfSome, length};
+ghost use Rattle.std.specs.Arc.{arc_value};
 ghost use Rattle.std.specs.List.{AllByRecursion, AllZip};
 ghost use Rattle.foundation.specs.Limits.{most_near};
 ghost use Rattle.edit_line.specs.EditSets.{SayTheRules};
 ghost use Rattle.edit_line.specs.Shapes.{shape_of};
-ghost use Rattle.edit_model.specs.PlainNumbers.{HasPlain};
+ghost use Rattle.edit_model.specs.PlainNumbers.{HasPlainNumbers};
 ghost use Rattle.edit_model.specs.Rows.{IsRow};
 ghost use Rattle.donor_measure.specs.Measures.{Measures};
 ghost use Rattle.donor_measure.specs.Yardsticks.{yardsticks_of};
@@ -30,11 +34,11 @@ use std::alloc::Global;
 use std::sync::{Arc, Wait};
 use std::thread::Threads;
 
-/// What becomes of each record of a sheet, in order: the outcome of its search by the edits, and the values of its
-/// changed fields, for which it claims a donor among the clean records, those of its own imputation class where the terms
-/// have a class field. From 1 to 64 workers draw the records side by side. The edits are over the survey's fields, and
-/// they say of a point with codes of these what the rules say. The measure is one of the survey, and the numbers of the
-/// records have numerators below 10^21 and denominators of at most 10^6.
+/// What becomes of each record of a sheet, in order: the outcome of its search by the edits, and the values
+/// of its changed fields. For these it claims a donor among the clean records, those of its own imputation
+/// class where the terms have a class field. From 1 to 64 workers draw the records side by side, and the
+/// gate is told of each draw. The edits say of a point with codes of the survey what the rules say. The
+/// measure is one of the survey, and the records' numbers are plain.
 pub fn edit_records<
     R: Threads + Wait + Sync,
     F: Fn(u32, &Value, &Value) -> u64 + Send + Sync,
@@ -53,7 +57,7 @@ pub fn edit_records<
     requires over { edits.shape ≡ shape_of survey.fields }
     requires same { SayTheRules survey edits }
     requires rows { AllByRecursion (IsRow survey.fields) sheet.rows }
-    requires plain { AllByRecursion HasPlain sheet.rows }
+    requires plain { AllByRecursion HasPlainNumbers sheet.rows }
     requires measures { Measures F.Fn measure.closure measure.yardsticks }
     requires yardsticks { measure.yardsticks ≡ yardsticks_of survey.fields }
     requires near { terms.near ≤ most_near }
@@ -68,8 +72,7 @@ pub fn edit_records<
         → AreInOrder survey sheet.rows terms.class_field edited.ends.items edited.history.items) }
 {
     let decks = Decks::new(alloc, &survey, &sheet, terms.class_field)?;
-    let edits = Arc::new(alloc, edits)?;
-    let pool = Pool::new(alloc, Arc::try_clone(&edits)?)?;
+    let (edits, pool) = pool_of(alloc, edits)?;
     let rest = Rest {
         survey,
         edits,
@@ -83,7 +86,18 @@ pub fn edit_records<
     edit_by(rt, alloc, rest, terms.limit, workers, gate)
 }
 
-// What becomes of each record, where a donor is given at most as often as this limit says.
+// The edits, to be read by all workers, and the pool of the systems that are derived from them.
+fn pool_of(alloc: Global, edits: Edits) -> Result<(Arc<Edits>, Pool), OutOfMemory>
+    ensures edits { IfOk result (λ made. arc_value made.0 ≡ edits) }
+    ensures pool { IfOk result (λ made. made.1.edits ≡ edits) }
+{
+    let edits = Arc::new(alloc, edits)?;
+    let pool = Pool::new(alloc, Arc::try_clone(&edits)?)?;
+    Ok((edits, pool))
+}
+
+// What becomes of each record by `rest`, which has the sheet, the edits and the donors. A donor is given at
+// most `limit` times. First the workers search and claim, and then all records are given values.
 fn edit_by<R: Threads + Wait + Sync, F: Fn(u32, &Value, &Value) -> u64 + Send + Sync, G: Gate>(
     rt: &R,
     alloc: Global,

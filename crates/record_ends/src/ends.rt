@@ -1,5 +1,7 @@
-//! What becomes of all records.
-ghost use Rattle.std.specs.Prelude.{◌≡◌, ◌<◌, ℕ, IfOk, length, map, nat_eq};
+//! What becomes of all records. In contracts, `EndsBy` says that an end is what becomes of a piece's record
+//! with its donor in the history. `ArePiecesIn` says that the pieces are those of all records, and
+//! `AnswersNeeds` that the history is legal, with each claim that they need, once.
+ghost use Rattle.std.specs.Prelude.{◌≡◌, ◌<◌, ℕ, IfOk, None, length, map, nat_eq, replicate};
 ghost use Rattle.std.specs.List.{All, AllZip, IsDistinct};
 ghost use Rattle.donor_book.specs.Entries.{wins_of};
 ghost use Rattle.record_pieces.specs.Needs.{AnswersNeeds};
@@ -17,8 +19,9 @@ use record_pieces::{Piece, Rest};
 use std::alloc::Global;
 use std::thread::Threads;
 
-/// What becomes of each record, in order, by what was found of it and the donor that it was given in this history. The
-/// records are given values side by side.
+/// What becomes of each record, in order, by what was found of it and the donor that it was given in this
+/// history of claims. `rest` is by what the records are edited. The pieces are one for each record, in row
+/// order. The records are given values side by side, in the threads of `rt`.
 pub fn give_all<R: Threads + Sync, F: Fn(u32, &Value, &Value) -> u64 + Send + Sync>(
     rt: &R,
     alloc: Global,
@@ -49,19 +52,28 @@ pub fn give_all<R: Threads + Sync, F: Fn(u32, &Value, &Value) -> u64 + Send + Sy
         .collect::<Result<Vec<RowEnd>, OutOfMemory>>(rt, alloc)?
 }
 
-// The donor that each of so many records was given in a history.
+// The donor that each of `rows` records was given in a history, at the record's number; None where it
+// claimed none, or was given nobody. No record claims twice in it.
 fn donors_of(alloc: Global, rows: usize, history: &[Entry]) -> Result<Vec<Option<u32>>, OutOfMemory>
     requires within { All (λ entry. entry.row_no < rows) history.now }
     requires once { IsDistinct nat_eq (map (λ w. w.row_no) (wins_of history.now)) }
     ensures as_many { IfOk result (λ donors. length donors.items ≡ rows) }
     ensures each { IfOk result (λ donors. ListsDonors history.now rows donors.items) }
 {
+    let mut donors = no_donors(alloc, rows)?;
+    for entry in history {
+        donors[entry.row_no as usize] = entry.reply;
+    }
+    Ok(donors)
+}
+
+// A list with None for each of `rows` records.
+fn no_donors(alloc: Global, rows: usize) -> Result<Vec<Option<u32>>, OutOfMemory>
+    ensures { IfOk result (λ donors. donors.items ≡ replicate rows None) }
+{
     let mut donors = Vec::with_capacity(alloc, rows)?;
     for _ in 0..rows {
         donors.push(None)?;
-    }
-    for entry in history {
-        donors[entry.row_no as usize] = entry.reply;
     }
     Ok(donors)
 }

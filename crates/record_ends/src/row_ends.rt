@@ -1,4 +1,6 @@
-//! What becomes of one record.
+//! What becomes of one record, when its donor is known. In contracts, `EndsIn` says that an end has the
+//! piece's outcome, this donor, and the values that follow from both. `IsRest` says that the parts of `rest`
+//! fit one another. `case_known` computes nothing: it says that the record and the edits are a case.
 ghost use Rattle.std.specs.Prelude.{◌≡◌, ◌<◌, IfOk, IfSome, None, Some, length, option_copied, option_map};
 ghost use Rattle.edit_model.specs.Rows.{IsRow};
 ghost use Rattle.edit_paths.specs.Outcomes.{outcome_of};
@@ -20,8 +22,9 @@ use std::alloc::Global;
 use std::marker::Brand;
 use std::sync::ledger::{Blank, Ledger};
 
-/// What becomes of the record of a piece that is given this donor: the outcome of its search, and the values of its
-/// changed fields, the donor's where they fit.
+/// What becomes of the record of a piece that is given this donor, by its row number, or nobody. That is the
+/// outcome of its search, and where it is a change the values of its changed fields, the donor's where they
+/// fit.
 pub(crate) fn end_of<F: Fn(u32, &Value, &Value) -> u64>(
     alloc: Global,
     rest: &Rest<F>,
@@ -57,7 +60,10 @@ struct Change {
     cert: Cert,
 }
 
-// What becomes of a record for which a change was found: its changed fields are given values, the donor's where they fit.
+// What becomes of a record for which a change was found: its changed fields are given values, the donor's
+// where they fit. Where a number leaves the range, the end has no values, and tells where that was. `blank`
+// begins a counter of steps, which nobody reads. In the contract, `SaysIn` says that what the end tells of
+// corrections is so.
 fn with_values<F: Fn(u32, &Value, &Value) -> u64, L: Ledger>(
     alloc: Global,
     rest: &Rest<F>,
@@ -106,7 +112,7 @@ fn with_values<F: Fn(u32, &Value, &Value) -> u64, L: Ledger>(
     }
 }
 
-// The values of the donor, if there is one.
+// The row of the donor, if there is one.
 fn values_of(sheet: &Sheet, donor: Option<u32>) -> Option<&Row>
     requires { IfSome donor (λ d. d < length sheet.now.rows) }
     ensures { option_copied result ≡ option_map (row_at sheet.now.rows) donor }
@@ -117,7 +123,8 @@ fn values_of(sheet: &Sheet, donor: Option<u32>) -> Option<&Row>
     }
 }
 
-// What is told of a change, and of why its fields are given no values.
+// What the proof file tells of a change. `gift` is the fault for which its fields are given no values, or
+// None where they are given some.
 fn proof_of(change: Change, gift: Option<GiftFault>) -> RowProof
     ensures outcome { result.outcome ≡ outcome.Change change.path change.weight change.cert }
     ensures gift { result.gift ≡ gift }
@@ -132,7 +139,7 @@ fn proof_of(change: Change, gift: Option<GiftFault>) -> RowProof
     }
 }
 
-// The end of a record whose changed fields are given no values.
+// The end of a record with a change whose fields are given no values, since a number left the range.
 fn without_values(change: Change, donor: Option<u32>, fault: GiftFault) -> RowEnd
     ensures outcome { result.proof.outcome ≡ outcome.Change change.path change.weight change.cert }
     ensures fault { result.proof.gift ≡ Some fault }
@@ -145,7 +152,7 @@ fn without_values(change: Change, donor: Option<u32>, fault: GiftFault) -> RowEn
     }
 }
 
-// The end of a record for which no change was found.
+// The end of a record for which no change was found; it has no values.
 fn left_out(outcome: Outcome, donor: Option<u32>) -> RowEnd
     ensures outcome { result.proof.outcome ≡ outcome }
     ensures none { (result.proof.gift ≡ None) × (result.donor ≡ donor) × (result.gift ≡ None) }

@@ -7,7 +7,7 @@ use Rattle.std.specs.List.{All, AllByRecursion, range_with_len}
 use Rattle.foundation.specs.Limits.{most_codes, most_fields, most_near}
 use Rattle.edit_model.specs.Corrections.{IsCorrection}
 use Rattle.edit_model.specs.Parts.{SurveyParts}
-use Rattle.edit_model.specs.PlainNumbers.{HasPlain}
+use Rattle.edit_model.specs.PlainNumbers.{HasPlainNumbers}
 use Rattle.edit_model.specs.Points.{Point}
 use Rattle.edit_model.specs.Rows.{IsRow}
 use Rattle.edit_model.specs.declared.value.Value.{Value}
@@ -63,7 +63,7 @@ pub record IsRest {F : Type 0} (calls : closures.Shared F (ℕ × (Bor Value × 
   pub shape : (edits_in rest).shape ≡ shape_of rest.survey.fields
   pub same : (row : List Value) (p : Point) → Meets (case_in rest row) p ↔ IsCorrection rest.survey p
   pub rows : AllByRecursion (IsRow rest.survey.fields) (rows_in rest)
-  pub plain : AllByRecursion HasPlain (rows_in rest)
+  pub plain : AllByRecursion HasPlainNumbers (rows_in rest)
   pub decks : AreDecksOf rest.survey (rows_in rest) (class_field_in rest) rest.decks.of_class.items
   pub measures : Measures calls rest.measure.closure rest.measure.yardsticks
   pub yardsticks : rest.measure.yardsticks ≡ yardsticks_of rest.survey.fields

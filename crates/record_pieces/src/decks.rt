@@ -1,8 +1,11 @@
-//! The donors of a sheet, by imputation classes.
+//! The donors of a sheet, by imputation classes. A class with donors has the number of its code at the
+//! class field; without such a field, class 0 has all donors. The last class has the number behind these.
+//! In contracts, `AreDecksOf` says that the decks are those of the classes. They are right where all numbers
+//! of the sheet are plain (`HasPlainNumbers`).
 ghost use Rattle.std.specs.Prelude.{◌≡◌, ◌+◌, ◌<◌, ◌≤◌, IfOk, IfSome, Some, None, length, map};
 ghost use Rattle.std.specs.List.{All, AllByRecursion};
 ghost use Rattle.foundation.specs.Limits.{most_codes, most_fields};
-ghost use Rattle.edit_model.specs.PlainNumbers.{HasPlain};
+ghost use Rattle.edit_model.specs.PlainNumbers.{HasPlainNumbers};
 ghost use Rattle.edit_model.specs.Rows.{IsRow};
 ghost use Rattle.record_pieces.specs.Classes.{class_kept, class_read, code_count, codes_of_kind};
 ghost use Rattle.record_pieces.specs.Rests.{AreDecksOf};
@@ -14,9 +17,9 @@ use record_text::Sheet;
 use std::alloc::Global;
 use std::sync::Arc;
 
-/// The donors of a sheet by imputation classes: a deck for each code of the class field, in their order, or one deck of all
-/// clean records where there is no class field. Behind them is the last class, which has no donors: of the records
-/// that have no code at the class field, or change it.
+/// The donors of a sheet by imputation classes. Each code of the class field has a deck, in their order.
+/// Where there is no such field, one deck has all clean records. Behind them is the last class,
+/// which has no donors: of the records that have no code at the class field, or change it.
 #[derive(Debug, Drop)]
 pub struct Decks {
     pub class_field: Option<u32>,
@@ -24,7 +27,8 @@ pub struct Decks {
 }
 
 impl Decks {
-    /// The decks of a sheet of the survey. The class field is one of the survey's, if there is one.
+    /// The decks of a sheet of the survey: one for each code of the class field, or one where there is no
+    /// such field. It is a field of the survey; a numerical one has no codes, so that no deck is made.
     pub fn new(
         alloc: Global,
         survey: &Survey,
@@ -34,7 +38,7 @@ impl Decks {
         requires rows { AllByRecursion (IsRow survey.now.fields) sheet.now.rows }
         requires field { IfSome class_field (λ field. field < length survey.now.fields) }
         ensures class_field { IfOk result (λ decks. decks.class_field ≡ class_field) }
-        ensures decks { IfOk result (λ decks. AllByRecursion HasPlain sheet.now.rows
+        ensures decks { IfOk result (λ decks. AllByRecursion HasPlainNumbers sheet.now.rows
             → AreDecksOf survey.now sheet.now.rows class_field decks.of_class.items) }
     {
         let of_class = match class_field {
@@ -47,7 +51,7 @@ impl Decks {
         })
     }
 
-    /// The number of the last class: how many classes have donors. No memory.
+    /// The number of the last class, which is the count of the decks. No memory.
     pub fn last(&self) -> u32
         requires { length self.now.of_class.items ≤ most_codes }
         ensures { result ≡ length self.now.of_class.items }
@@ -55,7 +59,8 @@ impl Decks {
         self.of_class.len() as u32
     }
 
-    /// The class of a record as it was read. No memory.
+    /// The class of a record as it was read: the number of its code at the class field, or the last class
+    /// without one. It is 0 where there is no class field. No memory.
     pub fn class_read(&self, row: &Row) -> u32
         requires { length self.now.of_class.items ≤ most_codes }
         ensures { result ≡ class_read (length self.now.of_class.items) self.now.class_field row.now }
@@ -69,7 +74,8 @@ impl Decks {
         }
     }
 
-    /// The class of a record that keeps these fields. No memory.
+    /// The class of a record that keeps these fields: as it was read, or the last class where it changes
+    /// the class field. No memory.
     pub fn class_kept(&self, row: &Row, kept: FieldSet) -> u32
         requires few { length self.now.of_class.items ≤ most_codes }
         requires field { IfSome self.now.class_field (λ field. field < most_fields) }
@@ -81,7 +87,7 @@ impl Decks {
         }
     }
 
-    /// The classes of the rows of a sheet as they were read.
+    /// The class of each row of a sheet as it was read, in order.
     pub fn classes_read(&self, alloc: Global, sheet: &Sheet) -> Result<Vec<u32>, OutOfMemory>
         requires { length self.now.of_class.items ≤ most_codes }
         ensures { IfOk result (λ classes. classes.items
@@ -95,10 +101,10 @@ impl Decks {
     }
 }
 
-// The deck of all clean rows.
+// The one deck of all clean rows, for a sheet without a class field.
 fn deck_of_all(alloc: Global, survey: &Survey, sheet: &Sheet) -> Result<Vec<Deck>, OutOfMemory>
     requires { AllByRecursion (IsRow survey.now.fields) sheet.now.rows }
-    ensures { IfOk result (λ decks. AllByRecursion HasPlain sheet.now.rows
+    ensures { IfOk result (λ decks. AllByRecursion HasPlainNumbers sheet.now.rows
         → AreDecksOf survey.now sheet.now.rows None decks.items) }
 {
     let mut decks = Vec::new(alloc);
@@ -106,7 +112,8 @@ fn deck_of_all(alloc: Global, survey: &Survey, sheet: &Sheet) -> Result<Vec<Deck
     Ok(decks)
 }
 
-// The decks of the clean rows with each code of the field, in order.
+// The decks of the clean rows with each code of the class field, in the order of the codes. They share the
+// marks of the rows.
 fn decks_by(
     alloc: Global,
     survey: &Survey,
@@ -115,7 +122,7 @@ fn decks_by(
 ) -> Result<Vec<Deck>, OutOfMemory>
     requires rows { AllByRecursion (IsRow survey.now.fields) sheet.now.rows }
     requires field { field < length survey.now.fields }
-    ensures { IfOk result (λ decks. AllByRecursion HasPlain sheet.now.rows
+    ensures { IfOk result (λ decks. AllByRecursion HasPlainNumbers sheet.now.rows
         → AreDecksOf survey.now sheet.now.rows (Some field) decks.items) }
 {
     let marks = Arc::new(alloc, RowMarks::of(alloc, survey, sheet)?)?;
@@ -136,7 +143,7 @@ fn code_count(survey: &Survey, field: u32) -> u8
     codes_of_kind(&survey.fields()[field as usize].kind)
 }
 
-// How many codes a field of this kind has.
+// How many codes a field of this kind has, none where it is numerical.
 fn codes_of_kind(kind: &Kind) -> u8
     requires { codes_of_kind kind.now ≤ most_codes }
     ensures { result ≡ codes_of_kind kind.now }

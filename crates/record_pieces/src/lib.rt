@@ -1,6 +1,6 @@
-//! What is found of a record: the least set of fields to change, and the nearest donors for it. Begin with [`piece_of`],
-//! which finds both; by what records are edited is [`Rest`], and what a [`Piece`] is, is in `specs/Rests.antt` and
-//! `specs/Needs.antt`.
+//! What is found of a record: the least set of fields to change, and the nearest donors for it. Begin with
+//! [`piece_of`], which finds both; by what records are edited is [`Rest`], and what a [`Piece`] is, is in
+//! `specs/Rests.antt` and `specs/Needs.antt`.
 #![tactic(auto)]
 
 mod decks;

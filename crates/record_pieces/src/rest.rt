@@ -1,3 +1,4 @@
+//! All by which the records of a sheet are edited, but for what workers change.
 use crate::decks::Decks;
 use donor_measure::Measure;
 use edit_line::Edits;
@@ -6,9 +7,10 @@ use record_text::Sheet;
 use shared_edits::Pool;
 use std::sync::Arc;
 
-/// By what the records of a sheet are edited, which no worker changes: the survey and its edits, the sheet and its
-/// donors, how far two records are apart, how many donors a record ranks at most, the most work of the search in
-/// one record, and the pool of the systems that were derived so far.
+/// By what the records of a sheet are edited, which no worker changes but for the pool, that has the systems
+/// derived so far. It has the survey and its edits, the sheet and its donors, and how far two records are
+/// apart. `near` is how many donors a record ranks at most, `budget` the most work of the search in one
+/// record.
 #[derive(Drop)]
 pub struct Rest<F> {
     pub survey: Survey,

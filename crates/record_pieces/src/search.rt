@@ -1,4 +1,7 @@
-//! What is found of one record.
+//! What is found of one record: the outcome of its search, and the donors that it asks for. In contracts,
+//! `IsRest` says that the parts of `rest` fit one another: its edits are its rules', its decks its records'.
+//! `IsPieceIn` says that a piece is what this rest tells of its record. `serves` has the edits whose systems
+//! a source gives, and `keeps` the sets of fields whose systems it keeps.
 ghost use Rattle.std.specs.Prelude.{◌≡◌, ◌<◌, ◌==◌, ℕ, IfOk, IfSome, length, not, true};
 ghost use Rattle.std.specs.List.{All};
 ghost use Rattle.edit_line.specs.EditSets.{EditsParts};
@@ -26,7 +29,8 @@ use localise_tree::localise;
 use std::alloc::Global;
 use std::sync::ledger::Ledger;
 
-/// What is found of the record of this number: the outcome of its search, and the donors that it ranks.
+/// What is found of the record of this number: the outcome of its search by the edits, its class, and the
+/// donors that it ranks. The source gives the derived systems.
 pub fn piece_of<F: Fn(u32, &Value, &Value) -> u64, S: Systems, L: Ledger>(
     alloc: Global,
     source: &mut S,
@@ -63,14 +67,16 @@ pub fn piece_of<F: Fn(u32, &Value, &Value) -> u64, S: Systems, L: Ledger>(
     })
 }
 
-/// What a record asks of the donors: its class, and the donors of this class that it ranks, if it needs one.
+/// What a record asks of the donors: its class, and the donors of this class that it ranks, the nearest
+/// first. The ranking is None where it needs no donor.
 #[derive(Debug, Drop)]
 struct Wish {
     class: u32,
     ranking: Option<Sequence<u32>>,
 }
 
-// What a record asks of the donors of which this was found: nothing but where a change weighs something.
+// What the record of this number asks of the donors, where its search had this outcome. Where no change was
+// found it asks for nothing, and is in the last class.
 fn wish_for<F: Fn(u32, &Value, &Value) -> u64, L: Ledger>(
     alloc: Global,
     rest: &Rest<F>,
@@ -95,8 +101,9 @@ fn wish_for<F: Fn(u32, &Value, &Value) -> u64, L: Ledger>(
     }
 }
 
-// What a record asks of the donors of which a change of this path and weight was found: the nearest of its class at the
-// fields that are kept; nothing where the change weighs nothing.
+// What a record asks of the donors for which a change of this path and weight was found. It ranks the
+// donors of its class (`IsDonorIn`) that are nearest at the fields that it keeps (`RanksIn`). Where the
+// change weighs nothing, the record is clean, and asks for nothing.
 fn change_wish<F: Fn(u32, &Value, &Value) -> u64, L: Ledger>(
     alloc: Global,
     rest: &Rest<F>,
@@ -133,7 +140,8 @@ fn change_wish<F: Fn(u32, &Value, &Value) -> u64, L: Ledger>(
     })
 }
 
-// The nearest donors of its class for a record that keeps these fields; none in the last class.
+// The nearest donors of this class for a record that keeps these fields; none in the last class, which has
+// no deck.
 fn ranking_in<F: Fn(u32, &Value, &Value) -> u64, L: Ledger>(
     alloc: Global,
     rest: &Rest<F>,

@@ -30,7 +30,8 @@ use Rattle.record_workers.proofs.ApartLaws.{needs-apart, rows-apart}
 use Rattle.record_workers.proofs.BookLaws.{piece-within, ranks-none}
 use Rattle.record_workers.proofs.ClassPieces.{class-apart, in-class, of-class}
 use Rattle.record_workers.proofs.GatherLaws.{distinct-apart, history-ranked, needs-claimed}
-use Rattle.record_workers.proofs.JoinedLaws.{history-first, history-last, in-joined, joined-in, joined-map, joined-with_last, length-first, length-with_last, with_last}
+use Rattle.record_workers.proofs.JoinedLaws.{history-first, history-last, in-joined, joined-in, joined-map, joined-with_last, length-first, length-with_last}
+use Rattle.record_workers.proofs.JoinedLaws.{with_last}
 use Rattle.record_workers.proofs.LastClass.{IsNew, last-answered, last-in-order, legal-unanswered, unanswered-needs}
 use Rattle.record_workers.proofs.OrderLaws.{AreApart, same-by-key, same-elements}
 use Rattle.record_workers.proofs.RunLaws.{claims-run, pieces-are, rows-are}
@@ -153,9 +154,11 @@ module _ {F : Type 0} (calls : closures.Shared F (ℕ × (Bor Value × (Bor Valu
   module _ (joins : JoinedLaw) where
     first-legal : IsLegalHistory limit (joined (take last claims))
     first-legal = joins shared.books.terms.class_of limit (take last claims) (record {
-      legal = λ class lt. let less = first class lt in subst (IsLegalHistory limit) (sym (get_or-take last claims class [] less)) (class-answered class less).legal;
+      legal = λ class lt. let less = first class lt in subst (IsLegalHistory limit) (sym (get_or-take last claims class [] less))
+          (class-answered class less).legal;
       of_class = λ class lt. let less = first class lt in
-          subst (All (IsEntryIn shared.books.terms.class_of class)) (sym (get_or-take last claims class [] less)) (collected.each class (there class less)).of_class;
+          subst (All (IsEntryIn shared.books.terms.class_of class)) (sym (get_or-take last claims class [] less))
+          (collected.each class (there class less)).of_class;
     })
       where
         first : (class : ℕ) → class < length (take last claims) → class < last
@@ -167,7 +170,8 @@ module _ {F : Type 0} (calls : closures.Shared F (ℕ × (Bor Value × (Bor Valu
         let (class, lt, in_class) = joined-in e (take last claims) in_first in
         let many = length-first last claims [] many-claims in
         let less : class < last = omega (arith, lt, many) in
-        let in_history = subst (IsIn e) (get_or-take last claims class [] less ∙ sym (history-first last claims (unanswered last pieces) many-claims class less))
+        let in_history = subst (IsIn e)
+        (get_or-take last claims class [] less ∙ sym (history-first last claims (unanswered last pieces) many-claims class less))
         in_class in
         let all_many = as-many in
         let (q, q_in, q_class, q_row, q_need) = claim-piece class (omega (arith, less, all_many)) e in_history in

@@ -1,4 +1,5 @@
-use Rattle.std.proofs.Common.{◌≡◌, ◌≢◌, ◌⊎◌, ℕ, ◌++◌, ◌&&◌, Bool, true, false, cond, eqb, List, [], ◌∷◌, Option, Some, None, map, inl, inr, refl, sym, ap, ◌∙◌, subst}
+use Rattle.std.proofs.Common.{◌≡◌, ◌≢◌, ◌⊎◌, ℕ, ◌++◌, ◌&&◌, Bool, true, false, cond, eqb, List, [], ◌∷◌, Option, Some, None, map, inl, inr, refl, sym, ap, ◌∙◌}
+use Rattle.std.proofs.Common.{subst}
 use Rattle.std.specs.Prelude.{◌==◌, if◌then◌else◌}
 use Rattle.std.specs.List.{IsDistinct, filter}
 use Rattle.std.specs.List.Sorted.{IsNonDecreasing, IsNonDecreasingBy, IsPermutation}
@@ -111,5 +112,6 @@ module _ (limit last : ℕ) (pieces : List Piece) (apart : AreApart (λ (need : 
   -- they are in row order, as the pieces are
   pub last-in-order : IsNonDecreasingBy (λ (p : Piece). p.row_no) pieces → AreInRowOrder (unanswered last pieces)
   last-in-order sorted = IsStrictlyIncreasing-from_distinct (rows_claimed (unanswered last pieces))
-      (subst IsNonDecreasing (sym (rows-unanswered pieces)) (rows-sorted (filter asks pieces) (IsNonDecreasingBy-filter (λ (p : Piece). p.row_no) asks pieces sorted)))
+      (subst IsNonDecreasing (sym (rows-unanswered pieces))
+      (rows-sorted (filter asks pieces) (IsNonDecreasingBy-filter (λ (p : Piece). p.row_no) asks pieces sorted)))
       (subst (IsDistinct eqb) (rows-won (unanswered last pieces)) last-answered.legal.once)

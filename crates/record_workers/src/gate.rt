@@ -1,6 +1,10 @@
+//! A place in a worker's course where a test may hold it, so that workers take their steps in an order that
+//! the test chooses.
+
 /// What is told of each row that a worker draws. A test may hold the worker there.
 pub trait Gate: Sync {
-    /// The worker of this number drew the row of this number, and has done nothing with it yet.
+    /// It is told that the worker of this number drew the row of this number, and has done nothing with it
+    /// yet. The worker goes on when this returns.
     fn at(&self, worker: u32, row_no: u32);
 }
 
@@ -9,5 +13,6 @@ pub trait Gate: Sync {
 pub struct NoGate;
 
 impl Gate for NoGate {
+    // It returns at once.
     fn at(&self, _worker: u32, _row_no: u32) {}
 }

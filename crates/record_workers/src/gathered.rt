@@ -1,4 +1,7 @@
-//! All workers, side by side.
+//! All workers, side by side, and what they found and claimed, gathered. In contracts, `IsReady` says that
+//! a worker has done nothing yet, and `HasRun` that it drew until no record was left. `ArePiecesIn` says
+//! that there is a right piece for each record. `AnswersNeeds` says that the claims are a legal history of
+//! just what these need, and `AnswersInClasses` that each class has one of its own.
 ghost use Rattle.std.specs.Prelude.{◌≡◌, ◌<◌, IfOk, length};
 ghost use Rattle.std.specs.List.{All};
 ghost use Rattle.record_pieces.specs.Needs.{AnswersNeeds};
@@ -21,8 +24,9 @@ use std::sync::Wait;
 use std::thread;
 use std::thread::Threads;
 
-/// What workers found and claimed, all together: a piece for each record, in row order, the claims of donors class by
-/// class, in each in the order in which they were answered, and by what the records were edited.
+/// What workers found and claimed, all together. There is a piece for each record, in row order. The claims
+/// of donors stand class by class, in each in the order in which they were answered. `rest` is by what the
+/// records were edited.
 #[derive(Drop)]
 pub struct Gathered<F> {
     pub pieces: Vec<Piece>,
@@ -30,8 +34,9 @@ pub struct Gathered<F> {
     pub rest: Rest<F>,
 }
 
-/// Lets all workers run, each in a thread of its own, and gathers what they found and claimed. The workers have all
-/// seats and all passes, and there is at least one.
+/// Lets all workers run, each in a thread of its own, and gathers what they found and claimed. There is at
+/// least one worker, and they have all seats and all passes. So the tickets and the books can be closed
+/// when they have run. Where memory is refused to one worker, nothing is gathered.
 pub fn run_all<R: Threads + Wait + Sync, F: Fn(u32, &Value, &Value) -> u64 + Send + Sync, G: Gate>(
     rt: &R,
     alloc: Global,
@@ -73,7 +78,8 @@ pub fn run_all<R: Threads + Wait + Sync, F: Fn(u32, &Value, &Value) -> u64 + Sen
     })
 }
 
-// Lets all workers run, and gives them back in order.
+// Lets all workers run, and gives them back in their order when each has ended. Where memory was refused to
+// some worker, that is the answer, and no worker comes back.
 fn all_run<R: Threads + Wait + Sync, F: Fn(u32, &Value, &Value) -> u64 + Send + Sync, G: Gate>(
     rt: &R,
     alloc: Global,

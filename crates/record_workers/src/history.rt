@@ -1,4 +1,5 @@
-//! The claims of the records, with their rankings.
+//! The claims of all records, each with the ranking of its record, as one history. In contracts, `entry_by`
+//! is a claim with its record's ranking, and `unanswered` the claims of the last class.
 ghost use Rattle.std.specs.Prelude.{◌≡◌, ◌++◌, ◌≤◌, IfOk, OnOk, length, map, slice_get, take};
 ghost use Rattle.class_books.specs.Histories.{joined};
 ghost use Rattle.record_workers.specs.inner.Gatherings.{entry_by, ranking_at, unanswered, unanswered_by};
@@ -8,8 +9,10 @@ use foundation::{OutOfMemory, Sequence};
 use record_pieces::Piece;
 use std::alloc::Global;
 
-/// The claims class by class, each with the ranking that its record's piece has, and behind them those of the records of the last
-/// class, which has no donors: nobody was given to them. The pieces are in row order.
+/// The claims of all classes, one class after the other, each with the ranking that its record's piece has.
+/// `histories` has the claims of each class; those of the classes before `last` are taken. Behind them stand
+/// those of the records of class `last`, which has no donors, so nobody is given to them. The pieces are in
+/// row order.
 pub(crate) fn history_of(
     alloc: Global,
     pieces: &[Piece],
@@ -30,7 +33,8 @@ pub(crate) fn history_of(
     Ok(history)
 }
 
-// Puts the claims that were answered so last, each with the ranking that its record's piece has.
+// Appends the claims of one class, in the order in which they were answered, each with the ranking that its
+// record's piece has.
 fn push_claims(
     alloc: Global,
     history: &mut Vec<Entry>,
@@ -50,7 +54,7 @@ fn push_claims(
     Ok(())
 }
 
-// Puts the claim of a record of the last class last, if it needs a donor.
+// Appends the claim of a record of the last class, if it needs a donor. Nobody is given to it.
 fn push_unanswered(
     alloc: Global,
     history: &mut Vec<Entry>,
@@ -72,7 +76,8 @@ fn push_unanswered(
     Ok(())
 }
 
-// The ranking that the piece of this row has, or no donors where it has none.
+// The ranking that the piece of this row has, or no donors where it has none. The piece of a row stands at
+// its number.
 fn ranking_of(alloc: Global, pieces: &[Piece], row_no: u32) -> Result<Vec<u32>, OutOfMemory>
     ensures { IfOk result (λ ranking. ranking.items ≡ ranking_at (slice_get pieces.now row_no)) }
 {

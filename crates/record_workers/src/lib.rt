@@ -1,6 +1,6 @@
-//! Workers that draw the records of a sheet side by side: each searches a record and claims a donor for it, before it
-//! draws the next. Begin with [`shared_by`], which makes workers ready, and [`run_all`], which lets them run; what one of
-//! them does is in `specs/Workers.antt`.
+//! Workers that draw the records of a sheet side by side. Each searches a record and claims a donor for it,
+//! before it draws the next. Begin with [`shared_by`], which makes workers ready, and [`run_all`], which
+//! lets them run; what one of them does is in `specs/Workers.antt`.
 #![tactic(auto)]
 
 mod gate;

@@ -1,4 +1,6 @@
-//! Workers that have done nothing yet, and what they share.
+//! Workers that have done nothing yet, and what they share. In contracts, `IsRest` says that the parts of
+//! `rest` fit one another. `IsShared` says that each record has a ticket and each class a book, and `IsReady`
+//! that a worker has a seat and a pass there.
 ghost use Rattle.std.specs.Prelude.{◌≡◌, ◌≤◌, IfOk, length};
 ghost use Rattle.std.specs.List.{All};
 ghost use Rattle.ticket_row.specs.Tickets.{IsFresh, Row};
@@ -17,8 +19,8 @@ use shared_edits::Pool;
 use std::alloc::Global;
 use ticket_row::{Seat, Tickets};
 
-/// What so many workers share, where a donor is given at most as often as the limit says, and these workers, which have
-/// done nothing yet. They are from 1 to 64.
+/// What workers share, and these workers, which have done nothing yet. `workers` says how many there are,
+/// from 1 to 64. A donor is given at most `limit` times.
 pub fn shared_by<F: Fn(u32, &Value, &Value) -> u64>(
     alloc: Global,
     rest: Rest<F>,
@@ -49,7 +51,8 @@ pub fn shared_by<F: Fn(u32, &Value, &Value) -> u64>(
     Ok((shared, ready))
 }
 
-// A worker for each of the seats and passes, which has done nothing yet.
+// `count` workers that have done nothing yet, each with one of the seats and one of the passes, of which
+// there are as many.
 fn workers_at(
     alloc: Global,
     pool: &Pool,
@@ -65,18 +68,32 @@ fn workers_at(
 {
     let mut seats = seats;
     let mut passes = passes;
-    let mut workers = Vec::with_capacity(alloc, count as usize)?;
+    let mut workers = Vec::new(alloc);
     for number in 0..count {
         let (Some(seat), Some(pass)) = (seats.pop(), passes.pop()) else {
             unreachable!()
         };
-        workers.push(Worker {
-            number,
-            seat,
-            pass,
-            reader: pool.reader(alloc)?,
-            pieces: Vec::new(alloc),
-        })?;
+        workers.push(worker_at(alloc, pool, number, seat, pass)?)?;
     }
     Ok(workers)
+}
+
+// The worker of this number at a seat, with its pass, which has done nothing yet.
+fn worker_at(
+    alloc: Global,
+    pool: &Pool,
+    number: u32,
+    seat: Seat,
+    pass: ClassPass,
+) -> Result<Worker, OutOfMemory>
+    ensures { IfOk result (λ worker. (row : Row) (books : ClassesName) → IsFresh row seat → IsFreshPass books pass
+        → IsReadyAt row books worker) }
+{
+    Ok(Worker {
+        number,
+        seat,
+        pass,
+        reader: pool.reader(alloc)?,
+        pieces: Vec::new(alloc),
+    })
 }

@@ -1,4 +1,7 @@
-//! What a worker finds of one record, with the systems of the pool.
+//! What a worker finds of one record, with the systems of the pool. The search borrows the worker's reader
+//! meanwhile. In contracts, `IsReaderOf` says that the reader has walked entries of this pool alone, and
+//! `kept_by` which sets of fields it then keeps. `KeepsFor` says that the system of a found change is kept.
+//! A `ghost_name` tells one borrow of a reader from any other.
 ghost use Rattle.std.specs.Prelude.{◌≡◌, ◌<◌, ℕ, IfOk, None, Option, Some, length, true};
 ghost use Rattle.shared_edits.specs.Pools.{IsReaderOf, PoolParts, keeps_fields};
 ghost use Rattle.record_pieces.specs.Rests.{IsPieceIn, IsRest, KeepsFor, rows_in};
@@ -15,7 +18,8 @@ use std::marker::{Brand, PhantomData};
 use std::sync::ledger::Ledger;
 use std::sync::{Arc, Wait};
 
-/// What a source is over: a pool, and the borrow of a worker's reader. A search that uses the source leaves them the same.
+/// For proofs alone: the pool of a source, and which borrow of a worker's reader it has. A search that uses
+/// the source leaves them the same.
 trait Lent {
     ghost pool: { Option PoolParts };
 
@@ -29,6 +33,7 @@ impl Lent for Brand {
 }
 
 /// A source over a pool and a worker's reader, of which it is known which pool and which reader these are.
+/// It answers as a [`PoolSource`] does.
 #[derive(Drop)]
 struct WorkerSource<'a, R: Wait, N: Lent> {
     source: PoolSource<'a, R>,
@@ -44,6 +49,7 @@ impl<'a, R: Wait, N: Lent> Systems for WorkerSource<'a, R, N> {
 
     ghost keeps = { λ s fields. keeps_fields s.source.pool.now fields s.source.reader.now };
 
+    // What the pool answers ([`shared_edits::Pool::obtain`]). The edits are not read, as they are the pool's.
     fn system<L: Ledger>(
         &mut self,
         alloc: Global,
@@ -55,6 +61,8 @@ impl<'a, R: Wait, N: Lent> Systems for WorkerSource<'a, R, N> {
         own.pool.obtain(own.rt, alloc, own.reader, fields, steps)
     }
 
+    // What the pool answers: the system with `field` more than `before`, by one step from that where the
+    // reader does not know it.
     fn system_after<L: Ledger>(
         &mut self,
         alloc: Global,
@@ -68,7 +76,8 @@ impl<'a, R: Wait, N: Lent> Systems for WorkerSource<'a, R, N> {
     }
 }
 
-/// What is found of the record of this number, with the systems of the pool, of which the reader walks more.
+/// What [`piece_of`] finds of the record of this number, with the systems of the pool. The reader may have
+/// walked more of the pool afterwards, and keeps what it knew.
 pub(crate) fn find_piece<R: Wait, F: Fn(u32, &Value, &Value) -> u64, L: Ledger>(
     reader: &mut Reader,
     rt: &R,
@@ -91,8 +100,8 @@ pub(crate) fn find_piece<R: Wait, F: Fn(u32, &Value, &Value) -> u64, L: Ledger>(
     found
 }
 
-// What is found of the record, and the reader, which is given back. The pool and the reader have a mark, by which it is
-// known that the search leaves them the same.
+// Puts what is found of the record into `found`, and gives the reader back. `N` marks the source with the
+// pool and the reader, so that proofs know that the search leaves them the same.
 fn find_lent<'a, R: Wait, F: Fn(u32, &Value, &Value) -> u64, L: Ledger, N: Lent>(
     reader: &'a mut Reader,
     rt: &'a R,

@@ -1,4 +1,6 @@
-//! One worker, which draws records until none is left.
+//! One worker, which draws records until none is left. In contracts, `HasWorked` says that its pieces and
+//! its claims are right so far. `FoundAll` says that it has a piece for each row that it drew. `MissesLast`
+//! says that it lacks the one of the last row, as memory was refused.
 ghost use Rattle.std.specs.Prelude.{◌≡◌, ◌⊎◌, ◌<◌, OnErr, OnOk, length, true};
 ghost use Rattle.record_pieces.specs.Rests.{IsPieceIn, rows_in, rows_of};
 ghost use Rattle.record_workers.specs.Workers.{ArePlacedIn, FoundAll, HasWorked, IsReady, IsShared, MissesLast, last_class};
@@ -18,8 +20,9 @@ use std::sync::Wait;
 use std::sync::ledger::{Blank, Ledger};
 use ticket_row::Seat;
 
-/// A worker: its number, its seat at the tickets, from which it draws records, its pass to the books, from which it claims
-/// donors, its reader of the pool, by which it finds derived systems, and what it has found.
+/// A worker. It has a number, a seat at the tickets, from which it draws records, and a pass to the books,
+/// from which it claims donors. Its reader finds derived systems in the pool. The pieces are what it has
+/// found so far.
 #[derive(Drop)]
 pub struct Worker {
     pub number: u32,
@@ -30,8 +33,8 @@ pub struct Worker {
 }
 
 impl Worker {
-    /// Draws records until none is left. For each it tells the gate, searches for the least set of fields to change, and
-    /// claims a donor where some field is changed, before it draws the next.
+    /// Draws records until none is left. For each it tells the gate, and searches for the least set of
+    /// fields to change. Where some field is changed it claims a donor, before it draws the next.
     pub fn run<R: Wait, F: Fn(u32, &Value, &Value) -> u64, G: Gate>(
         &mut self,
         rt: &R,
@@ -49,7 +52,8 @@ impl Worker {
         self.run_by::<R, F, G, Brand>(rt, alloc, shared, gate, Blank::new(1))
     }
 
-    // Draws records until none is left, with a ledger for the counter of the steps.
+    // Draws records until none is left, as [`Worker::run`] says. `blank` begins a counter of steps, which
+    // nobody reads.
     fn run_by<R: Wait, F: Fn(u32, &Value, &Value) -> u64, G: Gate, L: Ledger>(
         &mut self,
         rt: &R,
@@ -76,7 +80,9 @@ impl Worker {
         Ok(())
     }
 
-    // Does what there is to do of the record that was drawn last: it is searched, and claims a donor if it needs one.
+    // Does what there is to do of the record that was drawn last: it is searched, and claims a donor if it
+    // needs one. Room for its piece is taken before the claim, so that no claim stands without its piece.
+    // Where memory is refused, nothing is kept of the record.
     fn work_on<R: Wait, F: Fn(u32, &Value, &Value) -> u64, L: Ledger>(
         &mut self,
         rt: &R,
@@ -102,7 +108,8 @@ impl Worker {
     }
 }
 
-// Claims a donor for the record of the piece, if it needs one and is of a class that has donors.
+// Claims a donor for the record of the piece, if it needs one and is of a class that has donors. The pass
+// keeps the answer. It has asked in the book of the record's class alone, or in none (`HasAskedIn`).
 fn claim_for<F: Fn(u32, &Value, &Value) -> u64>(
     shared: &Shared<F>,
     pass: &mut ClassPass,

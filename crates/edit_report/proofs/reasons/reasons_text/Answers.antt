@@ -8,24 +8,33 @@ use Rattle.edit_report.proofs.reasons.reasons_text.Goals as goal
 pub loop-row_no-init : goal.loop-row_no-init
 loop-row_no-init c =
     rw (c.in_ok-push_reasons_header.ensures, c.new-writer.ensures)
-    (sym (records_text-append (reasons_header ∷ []) (reasons_from c.args.survey.now.fields c.args.sheet.now.columns 0 c.args.sheet.now.row_texts c.args.ends.now)))
+    (sym (records_text-append (reasons_header ∷ []) (reasons_from c.args.survey.now.fields c.args.sheet.now.columns 0 c.args.sheet.now.row_texts
+    c.args.ends.now)))
 
 pub push_reasons-requires-clause-layout : goal.push_reasons-requires-clause-layout
 push_reasons-requires-clause-layout c = sheet-layout _ _ _ _ c.requires.sheet.1 c.in_ok-layout.ensures.width c.in_ok-layout.ensures.columns
 
 pub push_reasons-requires-clause-width : goal.push_reasons-requires-clause-width
-push_reasons-requires-clause-width c = ap (λ (t : List (List ℕ)). length t) c.raw.ensures ∙ raw-long _ _ _ _ c.requires.sheet.1 (omega (arith, c.loop-row_no-test.true, c.loop-row_no.auto.row_no-end, c.len-row_no-end.ensures.row_texts)) ∙ sym c.in_ok-layout.ensures.width
+push_reasons-requires-clause-width c = ap (λ (t : List (List ℕ)). length t) c.raw.ensures ∙ raw-long _ _ _ _ c.requires.sheet.1
+    (omega (arith, c.loop-row_no-test.true, c.loop-row_no.auto.row_no-end, c.len-row_no-end.ensures.row_texts)) ∙ sym c.in_ok-layout.ensures.width
 
 pub loop-row_no-preserved : goal.loop-row_no-preserved
 loop-row_no-preserved c =
     let inv = c.loop-row_no.invariant in
     let fields = c.args.survey.now.fields in
     let in_row_texts : c.loop-row_no.row_no < length c.args.sheet.now.row_texts = omega (arith, c.loop-row_no-test.true, c.len-row_no-end.ensures.row_texts) in
-    let in_ends : c.loop-row_no.row_no < length c.args.ends.now = omega (arith, c.loop-row_no-test.true, c.len-row_no-end.ensures.rows, c.requires.ends.one_each) in
+    let in_ends : c.loop-row_no.row_no < length c.args.ends.now = omega (
+      arith,
+      c.loop-row_no-test.true,
+      c.len-row_no-end.ensures.rows,
+      c.requires.ends.one_each,
+    ) in
     rw (c.in_ok-push_reasons.ensures, c.in_ok-layout.ensures.columns, c.raw.ensures)
-    (reasons-more fields c.args.sheet.now.columns c.args.sheet.now.row_texts c.args.ends.now c.loop-row_no.row_no c.index-ends-row_no.result c.loop-row_no.writer _ in_row_texts in_ends c.index-ends-row_no.is inv)
+    (reasons-more fields c.args.sheet.now.columns c.args.sheet.now.row_texts c.args.ends.now c.loop-row_no.row_no c.index-ends-row_no.result
+    c.loop-row_no.writer _ in_row_texts in_ends c.index-ends-row_no.is inv)
 
 pub returns : goal.returns
 returns c =
     c.into_bytes.ensures
-    ∙ reasons-all c.args.survey.now.fields c.args.sheet.now.columns c.args.sheet.now.row_texts c.args.ends.now c.loop-row_no.row_no c.loop-row_no.writer _ (omega (arith, c.loop-row_no-test.false, c.len-row_no-end.ensures.rows, c.requires.ends.one_each)) c.loop-row_no.invariant
+    ∙ reasons-all c.args.survey.now.fields c.args.sheet.now.columns c.args.sheet.now.row_texts c.args.ends.now c.loop-row_no.row_no c.loop-row_no.writer _
+    (omega (arith, c.loop-row_no-test.false, c.len-row_no-end.ensures.rows, c.requires.ends.one_each)) c.loop-row_no.invariant

@@ -7,7 +7,8 @@ use Rattle.edit_report.proofs.released.push_released.Goals as goal
 
 pub returns-in-Some : goal.returns-in-Some
 returns-in-Some c =
-    subst (λ (g : Option Gift). OnOk c.push_row.result (c.push_row.new.writer ≡ c.args.writer.now ++ records_text (row_with c.args.survey.now.fields c.args.layout.now.columns c.args.read.now (path_found c.args.end.now.proof.outcome) g)))
+    subst (λ (g : Option Gift). OnOk c.push_row.result (c.push_row.new.writer ≡ c.args.writer.now
+    ++ records_text (row_with c.args.survey.now.fields c.args.layout.now.columns c.args.read.now (path_found c.args.end.now.proof.outcome) g)))
     (sym c.in-Some.is) (rw c.path_found-path.ensures at c.push_row.ensures)
 
 pub push_row-requires-clause-short : goal.push_row-requires-clause-short

@@ -10,7 +10,8 @@ returns-then-all_kept c =
     let fields = c.args.survey.now.fields in
     let path = c.args.path.now in
     subst (λ (texts : List (List ℕ)). OnOk c.push.result (c.push.new.self ≡ c.args.writer.now ++ records_text (texts ∷ [])))
-    (sym (texts-kept fields c.args.layout.now.columns c.args.new.now (changes fields path) 0 c.args.read.now (none-changed fields path (sym c.all_kept.ensures ∙ c.if-all_kept.true)))) c.push.ensures.written
+    (sym (texts-kept fields c.args.layout.now.columns c.args.new.now (changes fields path) 0 c.args.read.now
+    (none-changed fields path (sym c.all_kept.ensures ∙ c.if-all_kept.true)))) c.push.ensures.written
 
 pub returns : goal.returns
 returns c =

@@ -27,12 +27,14 @@ returns g c =
     let limit = c.in_ok-shared.shared.books.terms.limit in
     let answers = c.in_ok-pieces.ensures.history in
     let alone = length c.in_ok-shared.ready.items ≡ 1 in
-    let classes = subst (λ (r : Rest g.row.F.Denot). AnswersInClasses limit (length r.decks.of_class.items) alone pieces history) (sym was) c.in_ok-pieces.ensures.classes in
+    let classes = subst (λ (r : Rest g.row.F.Denot). AnswersInClasses limit (length r.decks.of_class.items) alone pieces history) (sym was)
+    c.in_ok-pieces.ensures.classes in
     let each = rw c.deref.ensures.value at c.in_ok-ends.ensures in
     let terms : Terms = record { budget = rest.budget; limit = c.args.limit; near = rest.near; class_field = class_field_in rest } in
     let last = length rest.decks.of_class.items in
     let decks = subst (λ (r : Rest g.row.F.Denot). IsRest g.F.Fn r) (sym was) c.in_ok-shared.ensures.shared.rest in
-    let donations = donations-are rest pieces are ends limit history answers each last decks.decks.as_many alone classes terms (sym c.in_ok-shared.ensures.limit) refl refl in
+    let donations = donations-are rest pieces are ends limit history answers each last decks.decks.as_many alone classes terms
+    (sym c.in_ok-shared.ensures.limit) refl refl in
     let order = alone-in-order rest pieces are ends limit history answers each last decks.decks.as_many alone classes in
     record {
       rest = same;

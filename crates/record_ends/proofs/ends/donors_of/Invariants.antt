@@ -1,9 +1,6 @@
-use Rattle.std.proofs.Common.{◌≡◌, None, length, replicate, take}
+use Rattle.std.proofs.Common.{◌≡◌, length, take}
 use Rattle.record_ends.specs.inner.Donors.{ListsDonors}
 use Rattle.record_ends.proofs.ends.donors_of.Given as goal
-
-abbrev pub invariant-loop : goal.invariant-loop
-invariant-loop l = l.donors.items ≡ replicate l.counter None
 
 abbrev pub invariant-loop-entry : goal.invariant-loop-entry
 invariant-loop-entry l = record {

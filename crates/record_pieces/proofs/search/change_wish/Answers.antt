@@ -3,7 +3,7 @@ use Rattle.std.proofs.lemmas.Bool.{false_from_ne_true}
 use Rattle.std.proofs.lemmas.Bool.Decides.{Decides-eqb}
 use Rattle.std.proofs.lemmas.List.Elements.{All-from_recursion}
 use Rattle.bound_cert.specs.Paths.{kept_set}
-use Rattle.edit_model.specs.PlainNumbers.{HasPlain}
+use Rattle.edit_model.specs.PlainNumbers.{HasPlainNumbers}
 use Rattle.edit_model.specs.declared.value.Value.{Value}
 use Rattle.donor_measure.specs.Measures.{HasMeasurable}
 use Rattle.donor_measure.specs.declared.yardstick.Yardstick.{Yardstick}
@@ -25,7 +25,7 @@ ranking_in-requires-clause-row g c =
     let rows = rows_in rest in
     let row_no = c.args.row_no in
     let is = is_row_at fields rows row_no is_rest.rows c.requires.row in
-    let plain = All-from_recursion HasPlain rows is_rest.plain row_no [] c.requires.row in
+    let plain = All-from_recursion HasPlainNumbers rows is_rest.plain row_no [] c.requires.row in
     let held = rw c.row-row.ensures at c.kept_set-kept.ensures.held in
     subst (λ (r : List Value). HasMeasurable rest.measure.yardsticks c.kept_set-kept.result r) (sym c.row-row.ensures)
     (subst (λ (ys : List Yardstick). HasMeasurable ys c.kept_set-kept.result (row_at rows row_no)) (sym is_rest.yardsticks)

@@ -36,7 +36,8 @@ returns-in-None-clause-ranking g c =
 
 -- the deck that was found is that of the class
 deck-is : (survey : SurveyParts) (rows : List (List Value)) (class : ℕ) (lent decks : List DeckParts) (deck : DeckParts) (P : DeckParts → Type 0)
-    → lent ≡ decks → true ≡ ltb class (length lent) → deck ≡ get_or lent class deck → ((d : DeckParts) → class < length decks → P (get_or decks class d)) → P deck
+    → lent ≡ decks → true ≡ ltb class (length lent) → deck ≡ get_or lent class deck → ((d : DeckParts) → class < length decks → P (get_or decks class d))
+    → P deck
 deck-is survey rows class lent decks deck P same below is each =
     subst P (sym (is ∙ ap (λ (ds : List DeckParts). get_or ds class deck) same))
     (each deck (subst (λ (ds : List DeckParts). class < length ds) same ((Decides-ltb class (length lent)).0 (sym below))))
@@ -85,7 +86,8 @@ returns-in-Some-clause-donors g c =
     (IsDeckIn rest.survey (rows_in rest) (class_field_in rest) c.args.class) c.deref.ensures.value found.0 (found.3.1 deck)
     (decks.each c.args.class) in
     let lent = ap (λ (ds : List DeckParts). length ds) c.deref.ensures.value in
-    let below : c.args.class < class_count rest.survey.fields (class_field_in rest) = (let there = (Decides-ltb c.args.class (length c.deref.result.now)).0 (sym found.0) in
+    let below : c.args.class < class_count rest.survey.fields (class_field_in rest) =
+    (let there = (Decides-ltb c.args.class (length c.deref.result.now)).0 (sym found.0) in
     omega (arith, there, lent, decks.as_many)) in
     let of_class = subst (All (IsDonorIn rest.survey (rows_in rest) (class_field_in rest) c.args.class)) (sym is.donors)
     (class-donors rest.survey (rows_in rest) (class_field_in rest) c.args.class below) in

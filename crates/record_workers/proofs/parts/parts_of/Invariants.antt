@@ -4,7 +4,7 @@ use Rattle.record_workers.proofs.parts.parts_of.Given as goal
 
 abbrev pub invariant-loop-worker : goal.invariant-loop-worker
 invariant-loop-worker l = record {
-  seats : l.seats.items ++ seats_of l.worker-iterator.rest.items ≡ seats_of l.fn.workers.items;
-  passes : l.passes.items ++ passes_of l.worker-iterator.rest.items ≡ passes_of l.fn.workers.items;
-  pieces : l.pieces.items ++ pieces_of l.worker-iterator.rest.items ≡ pieces_of l.fn.workers.items;
+  seats : l.parts.seats.items ++ seats_of l.worker-iterator.rest.items ≡ seats_of l.fn.workers.items;
+  passes : l.parts.passes.items ++ passes_of l.worker-iterator.rest.items ≡ passes_of l.fn.workers.items;
+  pieces : l.parts.pieces.items ++ pieces_of l.worker-iterator.rest.items ≡ pieces_of l.fn.workers.items;
 }

@@ -17,7 +17,7 @@ loop-number-preserved c =
     let passes_were : loop.passes.items ≡ passes ++ some.pass ∷ [] = c.pop-in-loop-number.ensures.items
     ∙ ap (λ (o : Option ClassPassState). passes ++ option_to_list o) some.is-1 in
     let items = c.in_ok-push.ensures.items in
-    let worker : Worker = record { number = loop.number; seat = some.seat; pass = some.pass; reader = c.in_ok-reader.field-0; pieces = c.new.result } in
+    let worker : Worker = c.in_ok-worker_at.field-0 in
     record {
       seats = omega (arith, inv.seats, ap length seats_were, length-append seats (some.seat ∷ []));
       passes = omega (arith, inv.passes, ap length passes_were, length-append passes (some.pass ∷ []));
@@ -26,12 +26,9 @@ loop-number-preserved c =
       unspent = λ books u.
           (All-pop (IsFreshPass books) loop.passes.items passes c.pop-in-loop-number.result c.pop-in-loop-number.ensures.items (inv.unspent books u)).0;
       ready = λ row books f u. subst (All (IsReadyAt row books)) (sym items)
-          (All-push (IsReadyAt row books) loop.workers.items worker (inv.ready row books f u) (record {
-            seat = subst (λ (o : Option SeatState). IfSome o (IsFresh row)) some.is-0
-                (All-pop (IsFresh row) loop.seats.items seats c.pop.result c.pop.ensures.items (inv.fresh row f)).1;
-            pass = subst (λ (o : Option ClassPassState). IfSome o (IsFreshPass books)) some.is-1
-                (All-pop (IsFreshPass books) loop.passes.items passes c.pop-in-loop-number.result c.pop-in-loop-number.ensures.items (inv.unspent books u)).1;
-            reader = c.in_ok-reader.ensures;
-            pieces = c.new.ensures.items;
-          }));
+          (All-push (IsReadyAt row books) loop.workers.items worker (inv.ready row books f u) (c.in_ok-worker_at.ensures row books
+          (subst (λ (o : Option SeatState). IfSome o (IsFresh row)) some.is-0
+          (All-pop (IsFresh row) loop.seats.items seats c.pop.result c.pop.ensures.items (inv.fresh row f)).1)
+          (subst (λ (o : Option ClassPassState). IfSome o (IsFreshPass books)) some.is-1
+          (All-pop (IsFreshPass books) loop.passes.items passes c.pop-in-loop-number.result c.pop-in-loop-number.ensures.items (inv.unspent books u)).1)));
     }
