@@ -15,10 +15,12 @@ module _ (a : Audit) where
   answers-count (Ok count) answers = answers.1
   answers-count (Err f) answers = tt
 
-  refused : (result : Result ℕ CheckFault) (line : ℕ) (w : Why) → Answers a result → result ≡ Err (fault.Rejected line w) → IsFirstFailure a line w × ¬ IsValidRelease a
+  refused : (result : Result ℕ CheckFault) (line : ℕ) (w : Why) → Answers a result → result ≡ Err (fault.Rejected line w) → IsFirstFailure a line w
+      × ¬ IsValidRelease a
   refused result line w answers is = rw is at answers
 
-  pub answers-rejected : (result : Result ℕ CheckFault) → Answers a result → (line : ℕ) (w : Why) → result ≡ Err (fault.Rejected line w) → IsFirstFailure a line w
+  pub answers-rejected : (result : Result ℕ CheckFault) → Answers a result → (line : ℕ) (w : Why) → result ≡ Err (fault.Rejected line w)
+      → IsFirstFailure a line w
   answers-rejected result answers line w is = (refused result line w answers is).0
 
   pub answers-invalid : (result : Result ℕ CheckFault) → Answers a result → (line : ℕ) (w : Why) → result ≡ Err (fault.Rejected line w) → ¬ IsValidRelease a

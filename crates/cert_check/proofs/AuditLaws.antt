@@ -1,5 +1,6 @@
 -- What the parts of the audit show together.
-use Rattle.std.proofs.Common.{◌≡◌, ◌∙◌, ℕ, zero, suc, ◌+◌, ◌≤◌, ◌==◌, not, nat_lt, Bool, true, false, if◌then◌else◌, List, [], ◌∷◌, Option, Some, None, Ok, Err, inl, inr, refl, sym, ap, subst, arith, length}
+use Rattle.std.proofs.Common.{◌≡◌, ◌∙◌, ℕ, zero, suc, ◌+◌, ◌≤◌, ◌==◌, not, nat_lt, Bool, true, false, if◌then◌else◌, List, [], ◌∷◌, Option, Some, None, Ok, Err}
+use Rattle.std.proofs.Common.{inl, inr, refl, sym, ap, subst, arith, length}
 use Rattle.std.specs.List.{filter}
 use Rattle.std.proofs.lemmas.Bool.Decides.{Decides-eqb, nat_tests}
 use Rattle.std.proofs.lemmas.List.Sums.{count_by-le-length, length-filter}
@@ -19,7 +20,8 @@ use Rattle.proof_grammar.proofs.ProofWords.{text-once}
 use Rattle.cert_check.specs.Claims.{AreValidClaims, IsClaimsFault}
 use Rattle.cert_check.specs.Dropped.{drop_fault}
 use Rattle.cert_check.specs.Places.{records_line}
-use Rattle.cert_check.specs.Releases.{Audit, AreReleased, AreValidRows, Fits, IsFaultAmong, IsFirstFailure, IsValidRelease, Spells, behind, files_of, head_fault, is_released, limits_fit, rules_of}
+use Rattle.cert_check.specs.Releases.{Audit, AreReleased, AreValidRows, Fits, IsFaultAmong, IsFirstFailure, IsValidRelease, Spells, behind, files_of}
+use Rattle.cert_check.specs.Releases.{head_fault, is_released, limits_fit, rules_of}
 use Rattle.cert_check.specs.RowChecks.{IsChangeFault, IsGiftFault, IsSaidFault, RowFiles, RowRules}
 use Rattle.cert_check.specs.Tables.{table_fault}
 use Rattle.cert_check.specs.declared.fault.CheckFault.TheVariants as fault
@@ -33,19 +35,23 @@ use Rattle.cert_check.proofs.ReleasedFileLaws.{rows-once}
 -- ---- heads
 
 -- where no head is at fault, the limits and both counts fit
-head-parts : (limits verdicts rows : Bool) (line : ℕ) → (if not limits then Some 2 else if not verdicts then Some 3 else if not rows then Some line else None) ≡ None → (verdicts ≡ true) × (rows ≡ true)
+head-parts : (limits verdicts rows : Bool) (line : ℕ) → (if not limits then Some 2 else if not verdicts then Some 3 else if not rows then Some line else None)
+    ≡ None → (verdicts ≡ true) × (rows ≡ true)
 head-parts true true true line none = (refl, refl)
 head-parts true true false line none = absurd (cc)
 head-parts true false rows line none = absurd (cc)
 head-parts false verdicts rows line none = absurd (cc)
 
-pub counts-fit : (a : Audit) (p : Proof) → head_fault a p ≡ None → (length p.verdicts ≡ length (normal_lines_of a.survey)) × (length p.rows ≡ length a.sheet.rows)
+pub counts-fit : (a : Audit) (p : Proof) → head_fault a p ≡ None → (length p.verdicts ≡ length (normal_lines_of a.survey))
+    × (length p.rows ≡ length a.sheet.rows)
 counts-fit a p none =
-    let (verdicts, rows) = head-parts (limits_fit p) (length p.verdicts == length (normal_lines_of a.survey)) (length p.rows == length a.sheet.rows) (records_line p) none in
+    let (verdicts, rows) = head-parts (limits_fit p) (length p.verdicts == length (normal_lines_of a.survey)) (length p.rows == length a.sheet.rows)
+    (records_line p) none in
     ((Decides-eqb (length p.verdicts) (length (normal_lines_of a.survey))).0 verdicts, (Decides-eqb (length p.rows) (length a.sheet.rows)).0 rows)
 
 -- a record file may have the header and so many rows
-pub in-limits : (a : Audit) (p : Proof) → head_fault a p ≡ None → (bytes : List ℕ) → IsSheet a.survey.fields bytes a.sheet → AreInLimits a.sheet.header (length (filter is_released p.rows))
+pub in-limits : (a : Audit) (p : Proof) → head_fault a p ≡ None → (bytes : List ℕ) → IsSheet a.survey.fields bytes a.sheet
+    → AreInLimits a.sheet.header (length (filter is_released p.rows))
 in-limits a p head bytes sheet =
     let narrow = (faultless_parts a.survey.fields sheet.first a.sheet.row_texts sheet.faultless).0 in
     let wide : length a.sheet.header ≡ length sheet.first = ap (λ (texts : List (List ℕ)). length texts) sheet.header ∙ header_length sheet.first in
@@ -66,7 +72,8 @@ OfRecord why.Cert = Unit {0}
 OfRecord why.RowText = Unit {0}
 OfRecord other = ⊥
 
-change-why : (r : RowRules) (f : RowFiles) (path : List Bool) (weight : ℕ) (leaves : List Leaf) (offset : ℕ) (w : Why) → IsChangeFault r f path weight leaves offset w → OfRecord w
+change-why : (r : RowRules) (f : RowFiles) (path : List Bool) (weight : ℕ) (leaves : List Leaf) (offset : ℕ) (w : Why)
+    → IsChangeFault r f path weight leaves offset w → OfRecord w
 change-why r f path zero leaves offset why.RowText is = tt
 change-why r f path zero leaves offset why.Cert is = tt
 change-why r f path zero leaves offset why.Grammar is = absurd is
@@ -82,7 +89,8 @@ change-why r f path (suc n) leaves offset why.Drop is = absurd is
 change-why r f path (suc n) leaves offset why.Table is = absurd is
 change-why r f path (suc n) leaves offset why.Claims is = absurd is
 
-gift-why : (r : RowRules) (f : RowFiles) (path : List Bool) (weight : ℕ) (leaves : List Leaf) (g : GiftFault) (offset : ℕ) (w : Why) → IsGiftFault r f path weight leaves g offset w → OfRecord w
+gift-why : (r : RowRules) (f : RowFiles) (path : List Bool) (weight : ℕ) (leaves : List Leaf) (g : GiftFault) (offset : ℕ) (w : Why)
+    → IsGiftFault r f path weight leaves g offset w → OfRecord w
 gift-why r f path weight leaves g offset why.RowText is = tt
 gift-why r f path weight leaves g offset why.Cert is = tt
 gift-why r f path weight leaves g offset why.Grammar is = absurd is
@@ -91,7 +99,8 @@ gift-why r f path weight leaves g offset why.Drop is = absurd is
 gift-why r f path weight leaves g offset why.Table is = absurd is
 gift-why r f path weight leaves g offset why.Claims is = absurd is
 
-said-why : (r : RowRules) (f : RowFiles) (outcome : Outcome) (gift : Option GiftFault) (offset : ℕ) (w : Why) → IsSaidFault r f outcome gift offset w → OfRecord w
+said-why : (r : RowRules) (f : RowFiles) (outcome : Outcome) (gift : Option GiftFault) (offset : ℕ) (w : Why) → IsSaidFault r f outcome gift offset w
+    → OfRecord w
 said-why r f (Change path weight cert) None offset w is = change-why r f path weight cert.leaves offset w is
 said-why r f (Change path weight cert) (Some g) offset w is = gift-why r f path weight cert.leaves g offset w is
 said-why r f outcome gift offset why.RowText is = tt
@@ -112,12 +121,15 @@ said-why r f (Contradictory cert) gift offset why.Drop is = absurd is
 said-why r f (Contradictory cert) gift offset why.Table is = absurd is
 said-why r f (Contradictory cert) gift offset why.Claims is = absurd is
 
-among-why : (r : RowRules) (saids : List RowProof) (row_texts : List (List (List ℕ))) (rows : List (List Value)) (released : List (List (List ℕ))) (offset : ℕ) (w : Why) → IsFaultAmong r saids row_texts rows released offset w → OfRecord w
+among-why : (r : RowRules) (saids : List RowProof) (row_texts : List (List (List ℕ))) (rows : List (List Value)) (released : List (List (List ℕ))) (offset : ℕ)
+    (w : Why) → IsFaultAmong r saids row_texts rows released offset w → OfRecord w
 among-why r [] row_texts rows released offset w is = absurd is
 among-why r (said ∷ saids) [] rows released offset w is = absurd is
 among-why r (said ∷ saids) (reads ∷ row_texts) [] released offset w is = absurd is
-among-why r (said ∷ saids) (reads ∷ row_texts) (row ∷ rows) released offset w (inl here) = said-why r (files_of said reads row released) said.outcome said.gift offset w here
-among-why r (said ∷ saids) (reads ∷ row_texts) (row ∷ rows) released offset w (inr (valid, (rest, later, is))) = among-why r saids row_texts rows (behind said released) rest w later
+among-why r (said ∷ saids) (reads ∷ row_texts) (row ∷ rows) released offset w (inl here) = said-why r (files_of said reads row released) said.outcome said.gift
+    offset w here
+among-why r (said ∷ saids) (reads ∷ row_texts) (row ∷ rows) released offset w (inr (valid, (rest, later, is))) =
+    among-why r saids row_texts rows (behind said released) rest w later
 
 -- ---- one proof
 
@@ -144,13 +156,16 @@ module _ (a : Audit) (p : Proof) (spelled : Spells a.proof p) where
       some-none o n some none = cc
 
   -- a step of the table that gives no line
-  pub table-answers : (line : ℕ) → head_fault a p ≡ None → drop_fault a.survey p ≡ None → table_fault a.survey p ≡ Some line → Answers a (Err (fault.Rejected line why.Table))
-  table-answers line head dropped found = ((p, spelled, (head, dropped, found)), λ valid. absurd (some-none (table_fault a.survey p) line found (valid-fits valid).table))
+  pub table-answers : (line : ℕ) → head_fault a p ≡ None → drop_fault a.survey p ≡ None → table_fault a.survey p ≡ Some line
+      → Answers a (Err (fault.Rejected line why.Table))
+  table-answers line head dropped found =
+      ((p, spelled, (head, dropped, found)), λ valid. absurd (some-none (table_fault a.survey p) line found (valid-fits valid).table))
     where
       some-none : (o : Option ℕ) (n : ℕ) → o ≡ Some n → o ≡ None → ⊥
       some-none o n some none = cc
 
-  module _ (head : head_fault a p ≡ None) (dropped : drop_fault a.survey p ≡ None) (table : table_fault a.survey p ≡ None) (bytes : List ℕ) (sheet : IsSheet a.survey.fields bytes a.sheet) where
+  module _ (head : head_fault a p ≡ None) (dropped : drop_fault a.survey p ≡ None) (table : table_fault a.survey p ≡ None) (bytes : List ℕ)
+      (sheet : IsSheet a.survey.fields bytes a.sheet) where
     fits : Fits a p
     fits = record { spelled = spelled; head = head; dropped = dropped; table = table }
 
@@ -161,10 +176,12 @@ module _ (a : Audit) (p : Proof) (spelled : Spells a.proof p) where
     as-rows rows are = record { first = are.first; given = are.given; same = are.header; long = are.long; counted = are.one_each }
 
     -- a released file that is not what the proof tells of
-    pub file-answers : ((rows : List (List (List ℕ))) → ¬ AreRowsOf a.sheet.header a.released (length (filter is_released p.rows)) rows) → Answers a (Err (fault.Rejected 0 why.RowText))
+    pub file-answers : ((rows : List (List (List ℕ))) → ¬ AreRowsOf a.sheet.header a.released (length (filter is_released p.rows)) rows)
+        → Answers a (Err (fault.Rejected 0 why.RowText))
     file-answers none = (
       inl ((p, fits, λ rows are. none rows (as-rows rows are)), refl),
-      λ valid. none valid.rows (as-rows valid.rows (subst (λ (q : Proof). AreReleased a q valid.rows) (one-proof valid.proof valid.fits.spelled) valid.released)),
+      λ valid. none valid.rows (as-rows valid.rows (subst (λ (q : Proof). AreReleased a q valid.rows) (one-proof valid.proof valid.fits.spelled)
+          valid.released)),
     )
 
     module _ (rows : List (List (List ℕ))) (are : AreRowsOf a.sheet.header a.released (length (filter is_released p.rows)) rows) where
@@ -173,15 +190,23 @@ module _ (a : Audit) (p : Proof) (spelled : Spells a.proof p) where
       valid-rows valid =
           let same = one-proof valid.proof valid.fits.spelled in
           let released : AreReleased a p valid.rows = subst (λ (q : Proof). AreReleased a q valid.rows) same valid.released in
-          let each : AreValidRows (rules_of a p) p.rows a.sheet.row_texts a.sheet.rows valid.rows = subst (λ (q : Proof). AreValidRows (rules_of a q) q.rows a.sheet.row_texts a.sheet.rows valid.rows) same valid.each in
-          subst (λ (rs : List (List (List ℕ))). AreValidRows (rules_of a p) p.rows a.sheet.row_texts a.sheet.rows rs) (rows-once a.sheet.header a.released (length (filter is_released p.rows)) (in-limits a p head bytes sheet) valid.rows rows (as-rows valid.rows released) are) each
+          let each : AreValidRows (rules_of a p) p.rows a.sheet.row_texts a.sheet.rows valid.rows =
+          subst (λ (q : Proof). AreValidRows (rules_of a q) q.rows a.sheet.row_texts a.sheet.rows valid.rows) same valid.each in
+          subst (λ (rs : List (List (List ℕ))). AreValidRows (rules_of a p) p.rows a.sheet.row_texts a.sheet.rows rs)
+          (rows-once a.sheet.header a.released (length (filter is_released p.rows)) (in-limits a p head bytes sheet) valid.rows rows
+          (as-rows valid.rows released) are) each
 
       -- a record that is at fault
-      pub record-answers : (offset : ℕ) (w : Why) → IsFaultAmong (rules_of a p) p.rows a.sheet.row_texts a.sheet.rows rows offset w → ¬ AreValidRows (rules_of a p) p.rows a.sheet.row_texts a.sheet.rows rows
+      pub record-answers : (offset : ℕ) (w : Why) → IsFaultAmong (rules_of a p) p.rows a.sheet.row_texts a.sheet.rows rows offset w
+          → ¬ AreValidRows (rules_of a p) p.rows a.sheet.row_texts a.sheet.rows rows
           → Answers a (Err (fault.Rejected (records_line p + 1 + offset) w))
-      record-answers offset w found not = (failure w (among-why (rules_of a p) p.rows a.sheet.row_texts a.sheet.rows rows offset w found) found, λ valid. not (valid-rows valid))
+      record-answers offset w found not = (
+        failure w (among-why (rules_of a p) p.rows a.sheet.row_texts a.sheet.rows rows offset w found) found,
+        λ valid. not (valid-rows valid),
+      )
         where
-          failure : (w : Why) → OfRecord w → IsFaultAmong (rules_of a p) p.rows a.sheet.row_texts a.sheet.rows rows offset w → IsFirstFailure a (records_line p + 1 + offset) w
+          failure : (w : Why) → OfRecord w → IsFaultAmong (rules_of a p) p.rows a.sheet.row_texts a.sheet.rows rows offset w
+              → IsFirstFailure a (records_line p + 1 + offset) w
           failure why.Cert of is = (p, fits, (rows, as-released rows are, (offset, is, refl)))
           failure why.RowText of is = inr (p, fits, (rows, as-released rows are, (offset, is, refl)))
           failure why.Grammar of is = absurd of
@@ -195,7 +220,8 @@ module _ (a : Audit) (p : Proof) (spelled : Spells a.proof p) where
         pub claims-answers : (line : ℕ) → IsClaimsFault a.survey a.sheet.rows p line → Answers a (Err (fault.Rejected line why.Claims))
         claims-answers line found = (
           (p, fits, (rows, as-released rows are, (valid, found))),
-          λ release. fault-invalid a.survey a.sheet.rows p line found (subst (λ (q : Proof). AreValidClaims a.survey a.sheet.rows q) (one-proof release.proof release.fits.spelled) release.claims),
+          λ release. fault-invalid a.survey a.sheet.rows p line found (subst (λ (q : Proof). AreValidClaims a.survey a.sheet.rows q)
+              (one-proof release.proof release.fits.spelled) release.claims),
         )
 
         -- a valid release

@@ -13,7 +13,9 @@ module _ (order : List ℕ) (i f whole : ℕ) (before : i + place_in (drop i ord
   -- another field stands here
   pub place-more : i < length order → get_or order i 0 ≢ f → i + 1 + place_in (drop (i + 1) order) f ≡ whole
   place-more below other =
-      let later : place_in (drop i order) f ≡ suc (place_in (drop (i + 1) order) f) = opened below ∙ ap (λ b. if b then 0 else suc (place_in (drop (i + 1) order) f)) (false_from_ne_true (get_or order i 0 == f) (λ same. other ((Decides-eqb (get_or order i 0) f).0 same))) in
+      let later : place_in (drop i order) f ≡ suc (place_in (drop (i + 1) order) f) = opened below
+      ∙ ap (λ b. if b then 0 else suc (place_in (drop (i + 1) order) f)) (false_from_ne_true (get_or order i 0 == f)
+      (λ same. other ((Decides-eqb (get_or order i 0) f).0 same))) in
       omega (arith, later, before)
 
   -- the list has ended

@@ -1,4 +1,5 @@
-use Rattle.std.proofs.Common.{◌≡◌, ◌∙◌, ◌==◌, ℕ, zero, suc, ◌+◌, ◌<◌, ◌≤◌, Bool, true, false, nat_eq, List, [], ◌∷◌, All, IsSomeAnd, Some, inl, inr, length, map, slice_get, slice_index_or, take, refl, sym, ap, subst, arith}
+use Rattle.std.proofs.Common.{◌≡◌, ◌∙◌, ◌==◌, ℕ, zero, suc, ◌+◌, ◌<◌, ◌≤◌, Bool, true, false, nat_eq, List, [], ◌∷◌, All, IsSomeAnd, Some, inl, inr, length}
+use Rattle.std.proofs.Common.{map, slice_get, slice_index_or, take, refl, sym, ap, subst, arith}
 use Rattle.std.specs.Bool.{Decides}
 use Rattle.std.specs.List.{AllByRecursion, IsDistinct, list_all, take-map}
 use Rattle.std.proofs.lemmas.Bool.{and_parts}
@@ -34,13 +35,16 @@ module _ (survey : SurveyParts) where
   is-donor (row ∷ rows) (suc donor) is = is-donor rows donor is
 
   -- what the flags say of each donor that is ranked
-  pub clean-donors : (rows : List (List Value)) (ranking : List ℕ) → list_all (λ donor. slice_index_or (map (is_clean survey) rows) donor false) ranking ≡ true → AllByRecursion (IsDonor survey rows) ranking
+  pub clean-donors : (rows : List (List Value)) (ranking : List ℕ) → list_all (λ donor. slice_index_or (map (is_clean survey) rows) donor false) ranking ≡ true
+      → AllByRecursion (IsDonor survey rows) ranking
   clean-donors rows [] all = tt
   clean-donors rows (donor ∷ ranking) all =
-      let both = and_parts (slice_index_or (map (is_clean survey) rows) donor false) (list_all (λ d. slice_index_or (map (is_clean survey) rows) d false) ranking) all in
+      let both = and_parts (slice_index_or (map (is_clean survey) rows) donor false) (list_all (λ d. slice_index_or (map (is_clean survey) rows) d false)
+      ranking) all in
       (donor-is rows donor both.0, clean-donors rows ranking both.1)
 
-  pub donors-clean : (rows : List (List Value)) (ranking : List ℕ) → AllByRecursion (IsDonor survey rows) ranking → list_all (λ donor. slice_index_or (map (is_clean survey) rows) donor false) ranking ≡ true
+  pub donors-clean : (rows : List (List Value)) (ranking : List ℕ) → AllByRecursion (IsDonor survey rows) ranking
+      → list_all (λ donor. slice_index_or (map (is_clean survey) rows) donor false) ranking ≡ true
   donors-clean rows [] are = refl
   donors-clean rows (donor ∷ ranking) are = rw (is-donor rows donor are.0) (donors-clean rows ranking are.1)
 
@@ -77,7 +81,8 @@ legal-take limit n history legal = record {
   replies = λ k entry is.
       let here = among-first n history k entry is in
       legal.replies k entry here.1 ∙ ap (λ (ws : List Won). first_free limit ws entry.ranking) (sym (before k (omega (arith, here.0))));
-  once = subst (IsDistinct nat_eq) (take-map (λ (w : Won). w.row_no) n (wins_of history) ∙ ap (map (λ (w : Won). w.row_no)) (take-map won_of n history)) (distinct-take n (map (λ (w : Won). w.row_no) (wins_of history)) legal.once);
+  once = subst (IsDistinct nat_eq) (take-map (λ (w : Won). w.row_no) n (wins_of history) ∙ ap (map (λ (w : Won). w.row_no)) (take-map won_of n history))
+      (distinct-take n (map (λ (w : Won). w.row_no) (wins_of history)) legal.once);
 }
   where
     before : (k : ℕ) → k ≤ n → take k (wins_of (take n history)) ≡ take k (wins_of history)
@@ -85,16 +90,19 @@ legal-take limit n history legal = record {
 
 module _ (survey : SurveyParts) (rows : List (List Value)) (p : Proof) where
   -- a claim is in form exactly where its donors are those that the flags say, if the rest is
-  pub in-form : (clean : List Bool) (entry : Entry) (b : Bool) → AreCleanFlags survey rows clean → IsSomeAnd (slice_get p.rows entry.row_no) (λ said. claims_donor said.outcome ≡ true) → length entry.ranking ≤ p.near → IsDistinct nat_eq entry.ranking
+  pub in-form : (clean : List Bool) (entry : Entry) (b : Bool) → AreCleanFlags survey rows clean
+      → IsSomeAnd (slice_get p.rows entry.row_no) (λ said. claims_donor said.outcome ≡ true) → length entry.ranking ≤ p.near → IsDistinct nat_eq entry.ranking
       → b ≡ list_all (λ donor. slice_index_or clean donor false) entry.ranking → Decides b (IsClaim survey rows p entry)
   in-form clean entry b flags row few once is =
-      let says : b ≡ list_all (λ donor. slice_index_or (map (is_clean survey) rows) donor false) entry.ranking = is ∙ ap (λ (cs : List Bool). list_all (λ donor. slice_index_or cs donor false) entry.ranking) flags in (
+      let says : b ≡ list_all (λ donor. slice_index_or (map (is_clean survey) rows) donor false) entry.ranking = is
+      ∙ ap (λ (cs : List Bool). list_all (λ donor. slice_index_or cs donor false) entry.ranking) flags in (
         λ yes. record { row = row; few = few; once = once; donors = clean-donors survey rows entry.ranking (sym says ∙ yes) },
         λ claim. says ∙ donors-clean survey rows entry.ranking claim.donors,
       )
 
   -- the records of claims in form are there, and so are their donors
-  pub claims-within : (count : ℕ) (claims : List Entry) → count ≡ length rows → length p.rows ≡ length rows → AllByRecursion (IsClaim survey rows p) claims → All (IsEntryWithin count count) claims
+  pub claims-within : (count : ℕ) (claims : List Entry) → count ≡ length rows → length p.rows ≡ length rows → AllByRecursion (IsClaim survey rows p) claims
+      → All (IsEntryWithin count count) claims
   claims-within count claims counted one_each are = All-from_recursion (IsEntryWithin count count) claims (each claims are)
     where
       below : (ranking : List ℕ) → AllByRecursion (IsDonor survey rows) ranking → AllByRecursion (λ donor. donor < count) ranking
@@ -104,7 +112,11 @@ module _ (survey : SurveyParts) (rows : List (List Value)) (p : Proof) where
       each : (claims : List Entry) → AllByRecursion (IsClaim survey rows p) claims → AllByRecursion (IsEntryWithin count count) claims
       each [] are = tt
       each (entry ∷ claims) are = (
-        ((let there = some-below p.rows entry.row_no _ are.0.row in omega (arith, there, counted, one_each)), All-from_recursion (λ donor. donor < count) entry.ranking (below entry.ranking are.0.donors)),
+        (
+          (let there = some-below p.rows entry.row_no _ are.0.row in omega (arith, there, counted, one_each)),
+          All-from_recursion (λ donor. donor < count)
+              entry.ranking (below entry.ranking are.0.donors),
+        ),
         each claims are.1,
       )
 

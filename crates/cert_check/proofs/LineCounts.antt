@@ -32,17 +32,25 @@ step-within leaf None named = omega (arith, leaf-steps leaf)
 step-within leaf (Some step) named = omega (arith, named, leaf-steps leaf)
 
 -- what is named stands on a line of the leaves
-pub named-within : (leaves : List Leaf) (leaf : ℕ) (step : Option ℕ) → IsNamedIn leaves leaf step → lines_of (take leaf leaves) + step_offset step < lines_of leaves
+pub named-within : (leaves : List Leaf) (leaf : ℕ) (step : Option ℕ) → IsNamedIn leaves leaf step
+    → lines_of (take leaf leaves) + step_offset step < lines_of leaves
 named-within [] leaf step named = absurd named
 named-within (first ∷ leaves) zero step named = omega (arith, step-within first step named, lines-cons first leaves)
-named-within (first ∷ leaves) (suc leaf) step named = omega (arith, named-within leaves leaf step named, lines-cons first leaves, lines-cons first (take leaf leaves))
+named-within (first ∷ leaves) (suc leaf) step named = omega (
+  arith,
+  named-within leaves leaf step named,
+  lines-cons first leaves,
+  lines-cons first (take leaf leaves),
+)
 
 -- the tree's fault stands on a line of the leaves
-pub fault-within : (leaves : List Leaf) (leaf : ℕ) (step : Option ℕ) → leaves ≢ [] → ((leaves ≡ []) × (leaf ≡ 0) × (step ≡ None)) ⊎ IsNamedIn leaves leaf step → lines_of (take leaf leaves) + step_offset step < lines_of leaves
+pub fault-within : (leaves : List Leaf) (leaf : ℕ) (step : Option ℕ) → leaves ≢ [] → ((leaves ≡ []) × (leaf ≡ 0) × (step ≡ None)) ⊎ IsNamedIn leaves leaf step
+    → lines_of (take leaf leaves) + step_offset step < lines_of leaves
 fault-within leaves leaf step some (inl none) = absurd (some none.0)
 fault-within leaves leaf step some (inr named) = named-within leaves leaf step named
 
 -- and so does its step
-pub step-below : (leaves : List Leaf) (leaf most : ℕ) (step : Option ℕ) → 1 + lines_of leaves < most → lines_of (take leaf leaves) + step_offset step < lines_of leaves → IfSome step (λ s. s + 1 < most)
+pub step-below : (leaves : List Leaf) (leaf most : ℕ) (step : Option ℕ) → 1 + lines_of leaves < most
+    → lines_of (take leaf leaves) + step_offset step < lines_of leaves → IfSome step (λ s. s + 1 < most)
 step-below leaves leaf most None few within = tt
 step-below leaves leaf most (Some step) few within = omega (arith, few, within)

@@ -1,4 +1,5 @@
-use Rattle.std.proofs.Common.{◌≡◌, ◌≢◌, ℕ, zero, suc, ◌+◌, ◌<◌, ◌*ℤ◌, ℤ, not, Bool, true, false, List, [], ◌∷◌, Some, All, length, refl, sym, ap, ◌∙◌, subst, arith}
+use Rattle.std.proofs.Common.{◌≡◌, ◌≢◌, ℕ, zero, suc, ◌+◌, ◌<◌, ◌*ℤ◌, ℤ, not, Bool, true, false, List, [], ◌∷◌, Some, All, length, refl, sym, ap, ◌∙◌, subst}
+use Rattle.std.proofs.Common.{arith}
 use Rattle.std.specs.List.{AllByRecursion, sum_by}
 use Rattle.std.specs.Str.{bytes_eq}
 use Rattle.std.proofs.lemmas.Bool.Decides.{Decides-eqb, Decides-int_eq}
@@ -58,7 +59,10 @@ module _ (changed : ℕ → Bool) (text : ℕ → List ℕ) where
   values-row i [] (read ∷ row) new are values = absurd are
   values-row i (field ∷ fields) [] new are values = absurd are
   values-row i (field ∷ fields) (read ∷ row) [] are values = absurd values
-  values-row i (field ∷ fields) (read ∷ row) (v ∷ new) are values = (value-kind (changed i) field.kind (text i) read v are.0 values.0, values-row (suc i) fields row new are.1 values.1)
+  values-row i (field ∷ fields) (read ∷ row) (v ∷ new) are values = (
+    value-kind (changed i) field.kind (text i) read v are.0 values.0,
+    values-row (suc i) fields row new are.1 values.1,
+  )
 
 -- ---- a point that has them differs from the record at the changed fields
 
@@ -71,7 +75,8 @@ code-agrees c p f same = (Decides-eqb c (p.code f)).0 (opened _ same)
     opened false h = sym h
 
 -- two values that a point has are the same
-both-agree : (k : Kind) (a b : Value) (p : Point) (f : ℕ) → IsOfKind k a → IsOfKind k b → differs_from a p f ≡ false → differs_from b p f ≡ false → is_same a b ≡ true
+both-agree : (k : Kind) (a b : Value) (p : Point) (f : ℕ) → IsOfKind k a → IsOfKind k b → differs_from a p f ≡ false → differs_from b p f ≡ false → is_same a b
+    ≡ true
 both-agree k Bad b p f fits also first second = absurd (cc)
 both-agree k (Code c) Bad p f fits also first second = absurd (cc)
 both-agree k (Number x) Bad p f fits also first second = absurd (cc)
@@ -85,7 +90,8 @@ both-agree (kind.Number scale) (Number x) (Code d) p f fits also first second = 
 both-agree (kind.Code codes) (Number x) (Code d) p f fits also first second = absurd fits
 
 -- a point that has a field's value differs there from the one that was read exactly where the field is changed
-value-differs : (changed : Bool) (k : Kind) (text : List ℕ) (read v : Value) (p : Point) (f : ℕ) → IsOfKind k read → IsValueOf changed k text read v → differs_from v p f ≡ false → differs_from read p f ≡ changed
+value-differs : (changed : Bool) (k : Kind) (text : List ℕ) (read v : Value) (p : Point) (f : ℕ) → IsOfKind k read → IsValueOf changed k text read v
+    → differs_from v p f ≡ false → differs_from read p f ≡ changed
 value-differs false k text read v p f fits is agrees = ap (λ (w : Value). differs_from w p f) (sym is) ∙ agrees
 value-differs true k text read v p f fits is agrees = by (differs_from read p f) refl
   where
@@ -95,7 +101,8 @@ value-differs true k text read v p f fits is agrees = by (differs_from read p f)
 
 module _ (changed : ℕ → Bool) (text : ℕ → List ℕ) (p : Point) where
   values-differ : (i : ℕ) (fields : List Field) (row new : List Value) → IsRow fields row → AreValuesFrom changed text i fields row new
-      → ((j : ℕ) → j < length new → differs_from (value_of new j) p (i + j) ≡ false) → (j : ℕ) → j < length fields → differs_from (value_of row j) p (i + j) ≡ changed (i + j)
+      → ((j : ℕ) → j < length new → differs_from (value_of new j) p (i + j) ≡ false) → (j : ℕ) → j < length fields → differs_from (value_of row j) p (i + j)
+      ≡ changed (i + j)
   values-differ i [] row new are values agrees j below = absurd (omega arith)
   values-differ i (field ∷ fields) [] new are values agrees j below = absurd are
   values-differ i (field ∷ fields) (read ∷ row) [] are values agrees j below = absurd values
@@ -106,28 +113,34 @@ module _ (changed : ℕ → Bool) (text : ℕ → List ℕ) (p : Point) where
   values-differ i (field ∷ fields) (read ∷ row) (v ∷ new) are values agrees (suc j) below =
       let next : (n : ℕ) → suc i + n ≡ i + suc n = λ n. omega arith in
       subst (λ n. differs_from (value_of row j) p n ≡ changed n) (next j)
-      (values-differ (suc i) fields row new are.1 values.1 (λ n under. ap (λ m. differs_from (value_of new n) p m) (next n) ∙ agrees (suc n) (omega arith)) j (omega arith))
+      (values-differ (suc i) fields row new are.1 values.1 (λ n under. ap (λ m. differs_from (value_of new n) p m) (next n) ∙ agrees (suc n) (omega arith)) j
+      (omega arith))
 
   -- the point differs from the record where fields are changed
-  pub row-differs : (fields : List Field) (row new : List Value) → IsRow fields row → AreValuesFrom changed text 0 fields row new → IsPointOf new p → (f : ℕ) → f < length fields → differs_from (value_of row f) p f ≡ changed f
+  pub row-differs : (fields : List Field) (row new : List Value) → IsRow fields row → AreValuesFrom changed text 0 fields row new → IsPointOf new p → (f : ℕ)
+      → f < length fields → differs_from (value_of row f) p f ≡ changed f
   row-differs fields row new are values agrees f below =
       let same : (n : ℕ) → 0 + n ≡ n = λ n. omega arith in
-      subst (λ n. differs_from (value_of row f) p n ≡ changed n) (same f) (values-differ 0 fields row new are values (λ j within. ap (λ n. differs_from (value_of new j) p n) (same j) ∙ agrees j within) f below)
+      subst (λ n. differs_from (value_of row f) p n ≡ changed n) (same f) (values-differ 0 fields row new are values
+      (λ j within. ap (λ n. differs_from (value_of new j) p n) (same j) ∙ agrees j within) f below)
 
 -- ---- what such a point weighs
 
 order-within : (fields : List Field) → All (λ f. f < length fields) (path_order fields)
 order-within fields =
-    All-append (λ f. f < length fields) (number_fields fields) (code_fields fields) (numbers-below is_numerical (length fields) fields (number_fields fields) (omega arith) refl)
+    All-append (λ f. f < length fields) (number_fields fields) (code_fields fields) (numbers-below is_numerical (length fields) fields (number_fields fields)
+    (omega arith) refl)
     (numbers-below (λ k. not (is_numerical k)) (length fields) fields (code_fields fields) (omega arith) refl)
 
 -- a point that differs from the record where the path changes it weighs what the path does
 pub differing-weighs : (survey : SurveyParts) (row : List Value) (path : List Bool) (p : Point) → IsRow survey.fields row
-    → ((f : ℕ) → f < length survey.fields → differs_from (value_of row f) p f ≡ changes survey.fields path f) → change_weight survey row p ≡ path_weight survey.fields path
+    → ((f : ℕ) → f < length survey.fields → differs_from (value_of row f) p f ≡ changes survey.fields path f) → change_weight survey row p
+    ≡ path_weight survey.fields path
 differing-weighs survey row path p are differs =
     sym (changed-weigh survey row p are)
     ∙ ap (sum_by (weight_at survey.fields))
-    (filter-agree (λ f. differs_from (value_of row f) p f) (changes survey.fields path) (path_order survey.fields) (λ f there. differs f (in-all (λ g. g < length survey.fields) f (path_order survey.fields) (order-within survey.fields) there)))
+    (filter-agree (λ f. differs_from (value_of row f) p f) (changes survey.fields path) (path_order survey.fields)
+    (λ f there. differs f (in-all (λ g. g < length survey.fields) f (path_order survey.fields) (order-within survey.fields) there)))
 
 -- the path that changes nothing weighs nothing
 pub empty-weighs : (fields : List Field) → path_weight fields [] ≡ 0
@@ -147,7 +160,8 @@ module _ (survey : SurveyParts) (well : IsWellFormed survey) (new : List Value) 
   pub clean-agrees : IsPointOf new (point_of new)
   clean-agrees f below = point_of-agrees new f (held f below)
 
-  rules-hold : (rules : List Rule) → All (IsRule survey.fields) rules → AllByRecursion (λ (rule : Rule). rule_at rule new ≡ Some true) rules → AllByRecursion (λ (rule : Rule). Holds rule (point_of new)) rules
+  rules-hold : (rules : List Rule) → All (IsRule survey.fields) rules → AllByRecursion (λ (rule : Rule). rule_at rule new ≡ Some true) rules
+      → AllByRecursion (λ (rule : Rule). Holds rule (point_of new)) rules
   rules-hold [] fit hold = tt
   rules-hold (rule ∷ rules) fit hold =
       let can = can_try survey.fields new are held rule (fit 0 rule (omega arith)) in (
@@ -157,4 +171,7 @@ module _ (survey : SurveyParts) (well : IsWellFormed survey) (new : List Value) 
 
   -- and it is a correction
   pub clean-corrects : IsCorrection survey (point_of new)
-  clean-corrects = record { codes = point_of-codes survey.fields new well.fields are; rules = rules-hold survey.rules well.rules (clean-holds survey new clean) }
+  clean-corrects = record {
+    codes = point_of-codes survey.fields new well.fields are;
+    rules = rules-hold survey.rules well.rules (clean-holds survey new clean);
+  }

@@ -1,4 +1,5 @@
-use Rattle.std.proofs.Common.{◌≡◌, ℕ, zero, suc, ◌++◌, Bool, if◌then◌else◌, List, [], ◌∷◌, Option, Some, None, Ok, length, refl, sym, ap, ◌∙◌, subst, append_assoc, append-nil}
+use Rattle.std.proofs.Common.{◌≡◌, ℕ, zero, suc, ◌++◌, Bool, if◌then◌else◌, List, [], ◌∷◌, Option, Some, None, Ok, length, refl, sym, ap, ◌∙◌, subst}
+use Rattle.std.proofs.Common.{append_assoc, append-nil}
 use Rattle.std.specs.List.{AllByRecursion}
 use Rattle.edit_model.specs.declared.value.Value.{Value}
 use Rattle.edit_line.specs.Lines.{LineParts}
@@ -20,10 +21,12 @@ use Rattle.cert_check.specs.SharedRows.{AreTableLines, SharedRowsLaw}
 -- ---- where the table grows
 
 module _ (r : RowRules) (lines more : List LineParts) where
-  certified-grows : (f : RowFiles) (path : List Bool) (weight : ℕ) (leaves : List Leaf) → IsCertified (rules_with r lines) f path weight leaves → IsCertified (rules_with r (lines ++ more)) f path weight leaves
+  certified-grows : (f : RowFiles) (path : List Bool) (weight : ℕ) (leaves : List Leaf) → IsCertified (rules_with r lines) f path weight leaves
+      → IsCertified (rules_with r (lines ++ more)) f path weight leaves
   certified-grows f path weight leaves (fits, valid) = (fits, tree-grows (tree_of r f (Some weight)) lines more leaves valid)
 
-  said-grows : (f : RowFiles) (outcome : Outcome) (gift : Option GiftFault) → IsValidSaid (rules_with r lines) f outcome gift → IsValidSaid (rules_with r (lines ++ more)) f outcome gift
+  said-grows : (f : RowFiles) (outcome : Outcome) (gift : Option GiftFault) → IsValidSaid (rules_with r lines) f outcome gift
+      → IsValidSaid (rules_with r (lines ++ more)) f outcome gift
   said-grows f (Change path zero cert) None valid = valid
   said-grows f (Change path (suc w) cert) None (certified, released) = (certified-grows f path (suc w) cert.leaves certified, released)
   said-grows f (Change path weight cert) (Some fault) (certified, exists) = (certified-grows f path weight cert.leaves certified, exists)
@@ -57,19 +60,22 @@ plain-leaves (said ∷ saids) (first, plain) = (plain-leaf said.outcome said.gif
 
 -- ---- one record
 
-module _ (r : RowRules) (even : length r.given ≡ length r.usable) (f : RowFiles) (table : List Step) (lines : List LineParts) (are : AreTableLines r table lines) where
+module _ (r : RowRules) (even : length r.given ≡ length r.usable) (f : RowFiles) (table : List Step) (lines : List LineParts)
+    (are : AreTableLines r table lines) where
   -- nothing is put into the table
   as-before : AreTableLines r table (lines ++ [])
   as-before = are ∙ ap (λ (ls : List LineParts). Ok ls) (sym (append-nil lines))
 
   certified-shared : (path : List Bool) (weight : ℕ) (leaves : List Leaf) → IsCertified r f path weight leaves
-      → (more : List LineParts) × AreTableLines r (table_with_leaves table leaves) (lines ++ more) × IsCertified (rules_with r (lines ++ more)) f path weight (shared_leaves (length r.given) table leaves)
+      → (more : List LineParts) × AreTableLines r (table_with_leaves table leaves) (lines ++ more)
+      × IsCertified (rules_with r (lines ++ more)) f path weight (shared_leaves (length r.given) table leaves)
   certified-shared path weight leaves (fits, valid) =
       let (more, more_are, shared) = tree-shared (tree_of r f (Some weight)) table lines leaves even are valid in
       (more, more_are, (fits, shared))
 
   said-shared : (outcome : Outcome) (gift : Option GiftFault) → HasCleanLeaf outcome gift → IsValidSaid r f outcome gift
-      → (more : List LineParts) × AreTableLines r (table_with_leaves table (leaves_in outcome)) (lines ++ more) × IsValidSaid (rules_with r (lines ++ more)) f (shared_outcome (length r.given) table outcome) gift
+      → (more : List LineParts) × AreTableLines r (table_with_leaves table (leaves_in outcome)) (lines ++ more)
+      × IsValidSaid (rules_with r (lines ++ more)) f (shared_outcome (length r.given) table outcome) gift
   said-shared (Change path zero cert) None clean valid =
       ([], subst (λ (leaves : List Leaf). AreTableLines r (table_with_leaves table leaves) (lines ++ [])) (sym clean) as-before, valid)
   said-shared (Change path (suc w) cert) None clean (certified, released) =
@@ -82,13 +88,15 @@ module _ (r : RowRules) (even : length r.given ≡ length r.usable) (f : RowFile
 
 -- ---- all records
 
-pub released-same : (given : ℕ) (table : List Step) (outcome : Outcome) (gift : Option GiftFault) → is_released (shared_row given table (record { outcome = outcome; gift = gift })) ≡ is_released (record { outcome = outcome; gift = gift })
+pub released-same : (given : ℕ) (table : List Step) (outcome : Outcome) (gift : Option GiftFault)
+    → is_released (shared_row given table (record { outcome = outcome; gift = gift })) ≡ is_released (record { outcome = outcome; gift = gift })
 released-same given table (Change path weight cert) gift = refl
 released-same given table (Budget path work) gift = refl
 released-same given table (Overflow path event) gift = refl
 released-same given table (Contradictory cert) gift = refl
 
-next-same : (one other : RowProof) → is_released one ≡ is_released other → (released : List (List (List ℕ))) → next_texts one released ≡ next_texts other released
+next-same : (one other : RowProof) → is_released one ≡ is_released other → (released : List (List (List ℕ))) → next_texts one released
+    ≡ next_texts other released
 next-same one other same [] = refl
 next-same one other same (texts ∷ released) = ap (λ b. if b then Some texts else None) same
 
@@ -97,14 +105,17 @@ behind-same one other same [] = refl
 behind-same one other same (texts ∷ released) = ap (λ b. if b then released else texts ∷ released) same
 
 -- what is said of all records stays right
-pub all-shared : (r : RowRules) (table : List Step) (lines : List LineParts) (saids : List RowProof) (row_texts : List (List (List ℕ))) (rows : List (List Value)) (released : List (List (List ℕ)))
+pub all-shared : (r : RowRules) (table : List Step) (lines : List LineParts) (saids : List RowProof) (row_texts : List (List (List ℕ)))
+    (rows : List (List Value)) (released : List (List (List ℕ)))
     → length r.given ≡ length r.usable → AreTableLines r table lines → AreCleanLeaves saids → AreValidRows r saids row_texts rows released
-    → (more : List LineParts) × AreTableLines r (table_with_rows table saids) (lines ++ more) × AreValidRows (rules_with r (lines ++ more)) (shared_rows (length r.given) table saids) row_texts rows released
+    → (more : List LineParts) × AreTableLines r (table_with_rows table saids) (lines ++ more)
+    × AreValidRows (rules_with r (lines ++ more)) (shared_rows (length r.given) table saids) row_texts rows released
 all-shared r table lines [] [] [] released even are clean valid = ([], are ∙ ap (λ (ls : List LineParts). Ok ls) (sym (append-nil lines)), tt)
 all-shared r table lines (said ∷ saids) (reads ∷ row_texts) (row ∷ rows) released even are (first_clean, clean) (first, valid) =
     let same = released-same (length r.given) table said.outcome said.gift in
     let (more, more_are, shared) = said-shared r even (files_of said reads row released) table lines are said.outcome said.gift first_clean first in
-    let (rest, rest_are, later) = all-shared r (table_with_leaves table (leaves_in said.outcome)) (lines ++ more) saids row_texts rows (behind said released) even more_are clean valid in
+    let (rest, rest_are, later) = all-shared r (table_with_leaves table (leaves_in said.outcome)) (lines ++ more) saids row_texts rows (behind said released)
+    even more_are clean valid in
     let joined : (lines ++ more) ++ rest ≡ lines ++ (more ++ rest) = rw append_assoc refl in
     let one = shared_row (length r.given) table said in
     let grown = said-grows r (lines ++ more) rest (files_of said reads row released) one.outcome one.gift shared in
@@ -112,10 +123,13 @@ all-shared r table lines (said ∷ saids) (reads ∷ row_texts) (row ∷ rows) r
     let others : behind said released ≡ behind one released = sym (behind-same one said same released) in (
       more ++ rest,
       subst (λ (ls : List LineParts). AreTableLines r (table_with_rows table (said ∷ saids)) ls) joined rest_are,
-      subst (λ (ls : List LineParts). AreValidRows (rules_with r ls) (shared_rows (length r.given) table (said ∷ saids)) (reads ∷ row_texts) (row ∷ rows) released) joined (
-        subst (λ (t : Option (List (List ℕ))). IsValidSaid (rules_with r ((lines ++ more) ++ rest)) (record { reads = reads; row = row; texts = t }) one.outcome one.gift) texts grown,
-        subst (λ (ts : List (List (List ℕ))). AreValidRows (rules_with r ((lines ++ more) ++ rest)) (shared_rows (length r.given) (table_with_leaves table (leaves_in said.outcome)) saids) row_texts rows ts) others later,
-      ),
+      subst (λ (ls : List LineParts). AreValidRows (rules_with r ls) (shared_rows (length r.given) table (said ∷ saids)) (reads ∷ row_texts) (row ∷ rows)
+          released) joined (
+            subst (λ (t : Option (List (List ℕ))). IsValidSaid (rules_with r ((lines ++ more) ++ rest))
+                (record { reads = reads; row = row; texts = t }) one.outcome one.gift) texts grown,
+            subst (λ (ts : List (List (List ℕ))). AreValidRows (rules_with r ((lines ++ more) ++ rest))
+                (shared_rows (length r.given) (table_with_leaves table (leaves_in said.outcome)) saids) row_texts rows ts) others later,
+          ),
     )
 all-shared r table lines [] [] (row ∷ rows) released even are clean valid = absurd valid
 all-shared r table lines [] (reads ∷ row_texts) rows released even are clean valid = absurd valid
@@ -123,4 +137,5 @@ all-shared r table lines (said ∷ saids) [] rows released even are clean valid 
 all-shared r table lines (said ∷ saids) (reads ∷ row_texts) [] released even are clean valid = absurd valid
 
 pub rows-shared : SharedRowsLaw
-rows-shared r table lines saids row_texts rows released even are plain valid = all-shared r table lines saids row_texts rows released even are (plain-leaves saids plain) valid
+rows-shared r table lines saids row_texts rows released even are plain valid = all-shared r table lines saids row_texts rows released even are
+    (plain-leaves saids plain) valid

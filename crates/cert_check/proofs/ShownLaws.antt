@@ -1,4 +1,5 @@
-use Rattle.std.proofs.Common.{◌≡◌, ℕ, zero, suc, ◌≤◌, Bool, true, List, [], ◌∷◌, ◌++◌, ◌⊎◌, inl, inr, Option, Some, None, IsSomeAnd, is_none, length, map, ap, ◌∙◌, arith}
+use Rattle.std.proofs.Common.{◌≡◌, ℕ, zero, suc, ◌≤◌, Bool, true, List, [], ◌∷◌, ◌++◌, ◌⊎◌, inl, inr, Option, Some, None, IsSomeAnd, is_none, length, map, ap}
+use Rattle.std.proofs.Common.{◌∙◌, arith}
 use Rattle.std.proofs.lemmas.List.{length-map}
 use Rattle.std.specs.List.{AllByRecursion}
 use Rattle.std.proofs.lemmas.Bool.Decides.{Decides-eqb}
@@ -54,10 +55,13 @@ some-then (Some x) P Q then is = then x is
 
 module _ (a : Audit) (p : Proof) (well : IsWellFormed a.survey) (fits : Fits a p) (f : RowFiles) (are : IsRow a.survey.fields f.row) where
   -- no correction is lighter than a valid tree says
-  none-lighter : (weight : Option ℕ) (leaves : List Leaf) → IsValidTree (tree_of (rules_of a p) f weight) leaves → (q : Point) → IsCorrection a.survey q → IsSomeAnd weight (λ w. w ≤ change_weight a.survey f.row q)
+  none-lighter : (weight : Option ℕ) (leaves : List Leaf) → IsValidTree (tree_of (rules_of a p) f weight) leaves → (q : Point) → IsCorrection a.survey q
+      → IsSomeAnd weight (λ w. w ≤ change_weight a.survey f.row q)
   none-lighter weight leaves valid q correction =
-      tree-shows (tree_of (rules_of a p) f weight) are (over-both (shape_of a.survey.fields) rules shared (normal-over a.survey) known.1) leaves valid q correction.codes
-      (all-in (λ l. lines.LineHolds l q) (usable_lines (rules ++ shared) (kept_flags p ++ map (λ l. true) shared)) (λ l there. either l (usable-with rules (kept_flags p) shared l even there)))
+      tree-shows (tree_of (rules_of a p) f weight) are (over-both (shape_of a.survey.fields) rules shared (normal-over a.survey) known.1) leaves valid q
+      correction.codes
+      (all-in (λ l. lines.LineHolds l q) (usable_lines (rules ++ shared) (kept_flags p ++ map (λ l. true) shared))
+      (λ l there. either l (usable-with rules (kept_flags p) shared l even there)))
     where
       rules : List LineParts
       rules = normal_lines_of a.survey
@@ -73,7 +77,8 @@ module _ (a : Audit) (p : Proof) (well : IsWellFormed a.survey) (fits : Fits a p
 
       -- the lines of the rules that are kept hold
       kept-holds : (l : LineParts) → IsIn l (usable_lines rules (kept_flags p)) → lines.LineHolds l q
-      kept-holds l there = in-all (λ l. lines.LineHolds l q) l rules ((lines-mean a.survey q well correction.codes).1 correction.rules) (usable-among rules (kept_flags p) l there)
+      kept-holds l there = in-all (λ l. lines.LineHolds l q) l rules ((lines-mean a.survey q well correction.codes).1 correction.rules)
+          (usable-among rules (kept_flags p) l there)
 
       -- and so do those that follow from them
       either : (l : LineParts) → IsIn l (usable_lines rules (kept_flags p)) ⊎ IsIn l shared → lines.LineHolds l q
@@ -85,7 +90,8 @@ module _ (a : Audit) (p : Proof) (well : IsWellFormed a.survey) (fits : Fits a p
   right-weight path weight right = (Decides-eqb (path_weight a.survey.fields path) weight).0 (both_true _ _ (both_true _ _ right).1).1
 
   -- a released row of a path's weight is a correction of least weight, where no correction is lighter
-  least-release : (path : List Bool) (weight : ℕ) → path_weight a.survey.fields path ≡ weight → ((q : Point) → IsCorrection a.survey q → weight ≤ change_weight a.survey f.row q) → AreReleasedTexts (rules_of a p) f path
+  least-release : (path : List Bool) (weight : ℕ) → path_weight a.survey.fields path ≡ weight
+      → ((q : Point) → IsCorrection a.survey q → weight ≤ change_weight a.survey f.row q) → AreReleasedTexts (rules_of a p) f path
       → IsSomeAnd f.texts (λ texts. IsLeastRelease a.survey a.sheet.columns (changes a.survey.fields path) f.row texts weight)
   least-release path weight is least released = some-then f.texts _ _ of_texts released
     where
@@ -97,7 +103,8 @@ module _ (a : Audit) (p : Proof) (well : IsWellFormed a.survey) (fits : Fits a p
           let new_row = values-row changed text 0 a.survey.fields f.row new are as_new.values in
           let agrees = clean-agrees a.survey well new new_row as_new.clean in
           let correction = clean-corrects a.survey well new new_row as_new.clean in
-          let weighs : change_weight a.survey f.row (point_of new) ≡ weight = differing-weighs a.survey f.row path (point_of new) are (row-differs changed text (point_of new) a.survey.fields f.row new are as_new.values agrees) ∙ is in
+          let weighs : change_weight a.survey f.row (point_of new) ≡ weight = differing-weighs a.survey f.row path (point_of new) are
+          (row-differs changed text (point_of new) a.survey.fields f.row new are as_new.values agrees) ∙ is in
           record {
             new = new;
             values = as_new.values;
@@ -111,10 +118,13 @@ module _ (a : Audit) (p : Proof) (well : IsWellFormed a.survey) (fits : Fits a p
   -- a change with its released row: one that weighs nothing has the empty path
   change-shows : (path : List Bool) (weight : ℕ) (leaves : List Leaf) → IsChange path weight leaves → IsValidChange (rules_of a p) f path weight leaves
       → IsSomeAnd f.texts (λ texts. IsLeastRelease a.survey a.sheet.columns (changes a.survey.fields path) f.row texts weight)
-  change-shows path zero leaves plain valid = least-release path 0 (ap (λ (q : List Bool). path_weight a.survey.fields q) plain.0 ∙ empty-weighs a.survey.fields) (λ q correction. omega arith) valid
-  change-shows path (suc w) leaves plain valid = least-release path (suc w) (right-weight path (suc w) valid.0.0) (none-lighter (Some (suc w)) leaves valid.0.1) valid.1
+  change-shows path zero leaves plain valid = least-release path 0 (ap (λ (q : List Bool). path_weight a.survey.fields q) plain.0
+      ∙ empty-weighs a.survey.fields) (λ q correction. omega arith) valid
+  change-shows path (suc w) leaves plain valid = least-release path (suc w) (right-weight path (suc w) valid.0.0) (none-lighter (Some (suc w)) leaves valid.0.1)
+      valid.1
 
-  said-shows : (outcome : Outcome) (fault : Option GiftFault) → IsOutcome outcome fault → IsValidSaid (rules_of a p) f outcome fault → ShowsSaid a.survey a.sheet.columns f outcome fault
+  said-shows : (outcome : Outcome) (fault : Option GiftFault) → IsOutcome outcome fault → IsValidSaid (rules_of a p) f outcome fault
+      → ShowsSaid a.survey a.sheet.columns f outcome fault
   said-shows (Change path weight cert) None plain valid = change-shows path weight cert.leaves plain valid
   said-shows (Change path weight cert) (Some fault) plain valid = none-lighter (Some weight) cert.leaves valid.0.1
   said-shows (Contradictory cert) fault plain valid = none-lighter None cert.leaves valid
@@ -123,7 +133,8 @@ module _ (a : Audit) (p : Proof) (well : IsWellFormed a.survey) (fits : Fits a p
 
 -- each record shows it
 module _ (a : Audit) (p : Proof) (well : IsWellFormed a.survey) (fits : Fits a p) where
-  rows-show : (saids : List RowProof) (row_texts : List (List (List ℕ))) (rows : List (List Value)) (released : List (List (List ℕ))) → AllByRecursion IsRowProof saids → AllByRecursion (IsRow a.survey.fields) rows
+  rows-show : (saids : List RowProof) (row_texts : List (List (List ℕ))) (rows : List (List Value)) (released : List (List (List ℕ)))
+      → AllByRecursion IsRowProof saids → AllByRecursion (IsRow a.survey.fields) rows
       → AreValidRows (rules_of a p) saids row_texts rows released → ShowAll a.survey a.sheet.columns saids row_texts rows released
   rows-show [] [] [] released plain are valid = tt
   rows-show [] [] (row ∷ rows) released plain are valid = absurd valid
@@ -139,16 +150,19 @@ module _ (a : Audit) (p : Proof) (well : IsWellFormed a.survey) (fits : Fits a p
       row-is [] = are.0
       row-is (texts ∷ later) = are.0
 
--- a valid release of a sheet shows that each line of the rules follows from those that are kept, that its rows are corrections of least weight, that its contradictions are none, and that its claims are legal
+-- a valid release of a sheet shows that each line of the rules follows from those that are kept, that its rows are
+-- corrections of least weight, that its contradictions are none, and that its claims are legal
 pub release-shows : (a : Audit) → IsWellFormed a.survey → (bytes : List ℕ) → IsSheet a.survey.fields bytes a.sheet → IsValidRelease a → Shows a
 release-shows a well bytes sheet valid = record {
   proof = valid.proof;
   spelled = valid.fits.spelled;
   follow = rules-follow a valid.proof well valid.fits;
-  shared = (table-follows (no_record a.survey (normal_lines_of a.survey) (kept_flags valid.proof)) valid.proof.table (shared_lines a.survey valid.proof) (normal-over a.survey) (table-lines a.survey valid.proof valid.fits.table)).0;
+  shared = (table-follows (no_record a.survey (normal_lines_of a.survey) (kept_flags valid.proof)) valid.proof.table (shared_lines a.survey valid.proof)
+      (normal-over a.survey) (table-lines a.survey valid.proof valid.fits.table)).0;
   rows = valid.rows;
   released = valid.released;
-  each = rows-show a valid.proof well valid.fits valid.proof.rows a.sheet.row_texts a.sheet.rows valid.rows valid.fits.spelled.plain.rows.1 (rows_are_records a.survey.fields bytes a.sheet sheet) valid.each;
+  each = rows-show a valid.proof well valid.fits valid.proof.rows a.sheet.row_texts a.sheet.rows valid.rows valid.fits.spelled.plain.rows.1
+      (rows_are_records a.survey.fields bytes a.sheet sheet) valid.each;
   legal = valid.claims.right.legal;
   within = λ donor. uses_within valid.proof.limit valid.proof.claims donor valid.claims.right.legal;
 }

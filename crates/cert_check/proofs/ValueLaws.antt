@@ -1,4 +1,5 @@
-use Rattle.std.proofs.Common.{◌≡◌, ℕ, zero, suc, ◌<◌, Bool, true, false, List, [], ◌∷◌, Some, Option, IfSome, IsSomeAnd, get_or, length, slice_get, refl, sym, subst, arith}
+use Rattle.std.proofs.Common.{◌≡◌, ℕ, zero, suc, ◌<◌, Bool, true, false, List, [], ◌∷◌, Some, Option, IfSome, IsSomeAnd, get_or, length, slice_get, refl, sym}
+use Rattle.std.proofs.Common.{subst, arith}
 use Rattle.std.proofs.lemmas.Option.{IfSome_then}
 use Rattle.edit_model.specs.Rows.{value_of}
 use Rattle.edit_model.specs.declared.field.Field.{Field}
@@ -34,10 +35,12 @@ module _ (c : Checking) (row : List Value) (path : List Bool) (texts : List (Lis
 
   there : (b : Bool) (v : Value) → changes c.survey.now.fields path f ≡ b → IsValue b v → IsValueAt c row path texts f v
   there b v changed value =
-      field-at (λ (g : Field). IsValueOf (changes c.survey.now.fields path f) g.kind text (value_of row f) v) c.survey.now.fields f d below (subst (λ (e : Bool). IsValue e v) (sym changed) value)
+      field-at (λ (g : Field). IsValueOf (changes c.survey.now.fields path f) g.kind text (value_of row f) v) c.survey.now.fields f d below
+      (subst (λ (e : Bool). IsValue e v) (sym changed) value)
 
   here : (b : Bool) (v : Value) → changes c.survey.now.fields path f ≡ b → IsValueAt c row path texts f v → IsValue b v
-  here b v changed value = subst (λ (e : Bool). IsValue e v) changed (at-field (λ (g : Field). IsValueOf (changes c.survey.now.fields path f) g.kind text (value_of row f) v) c.survey.now.fields f d below value)
+  here b v changed value = subst (λ (e : Bool). IsValue e v) changed
+      (at-field (λ (g : Field). IsValueOf (changes c.survey.now.fields path f) g.kind text (value_of row f) v) c.survey.now.fields f d below value)
 
   module _ (kept : changes c.survey.now.fields path f ≡ false) where
     pub kept-value : IsValueAt c row path texts f (value_of row f)
@@ -47,5 +50,6 @@ module _ (c : Checking) (row : List Value) (path : List Bool) (texts : List (Lis
     pub other-value : IfSome o (λ v. IsGivenText field.kind text v × (is_same v (value_of row f) ≡ false)) → IfSome o (λ v. IsValueAt c row path texts f v)
     other-value given = IfSome_then o given (λ v is. there true v changed is)
 
-    pub other-only : ((v : Value) → IsGivenText field.kind text v → is_same v (value_of row f) ≡ false → o ≡ Some v) → (v : Value) → IsValueAt c row path texts f v → o ≡ Some v
+    pub other-only : ((v : Value) → IsGivenText field.kind text v → is_same v (value_of row f) ≡ false → o ≡ Some v) → (v : Value)
+        → IsValueAt c row path texts f v → o ≡ Some v
     other-only only v value = let (given, other) = here true v changed value in only v given other

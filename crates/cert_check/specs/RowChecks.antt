@@ -101,6 +101,7 @@ IsValidSaid r f (Budget path work) fault = work ≤ r.budget
 IsValidSaid r f (Overflow path event) fault = event_exists r.survey.fields path event ≡ true
 IsValidSaid r f (Contradictory cert) fault = IsValidTree (tree_of r f None) cert.leaves
 
+-- what the proof says of a record is right: what was found, and what became of its values
 abbrev pub IsValidRow : RowRules → RowFiles → RowProof → Type 0
 IsValidRow r f said = IsValidSaid r f said.outcome said.gift
 

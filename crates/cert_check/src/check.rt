@@ -1,3 +1,10 @@
+//! The audit: one call, which reads the proof and then checks it against rules, records and released
+//! bytes.
+//!
+//! The claims of a valid release are these. Each record for which a change of some weight was found, and
+//! no other, claims a donor once. It ranks clean records, each once and no more than may be ranked. It is
+//! given the first of them that was given less often than the limit before, or nobody. Which donors it
+//! ranks, and that the nearest come first, is not checked.
 ghost use Rattle.std.specs.Prelude.{ℕ, List, IfOk, OnOk};
 ghost use Rattle.record_text.specs.Sheets.{IsSheet};
 ghost use Rattle.cert_check.specs.Releases.{IfRejected, IsFirstFailure, IsReleasedCount, IsValidRelease, audit_of};
@@ -10,14 +17,10 @@ use proof_text::{ProofFault, open_proof};
 use record_text::Sheet;
 use std::alloc::Global;
 
-/// Ok exactly where the bytes of the released file and of the proof are a valid release of the records, which are a
-/// sheet of the rules; it tells how many records are released. Then each line of the rules follows from those that the
-/// proof keeps, and each released row is a correction of least weight, whoever wrote the files. Each record for which a
-/// change was found, and no other, claims a donor once: it ranks clean records, each once and no more than may be
-/// ranked, and is given the first of them that was given less often than the limit before, or nobody where there is
-/// none. Which donors it ranks, and that the nearest come first, is not checked. Rejected comes with the first condition
-/// that fails and its line in the proof. The time is in proportion to the files and to the rules. The proof's trees are
-/// read one at a time, and none is held.
+/// Ok, with the number of released records, only where the files are a valid release of the records, which
+/// are a sheet of the rules. Then each line of the rules follows from those that the proof keeps. Each
+/// released row is a correction of least weight, whoever wrote the files. `Rejected` tells the first
+/// condition that fails, and its line in the proof. The proof's trees are read one at a time.
 pub fn check_all(
     alloc: Global,
     rules: &Survey,

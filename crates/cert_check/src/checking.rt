@@ -1,9 +1,11 @@
+//! What the check of a record looks at: what all records share, and what is the record's own.
 use edit_line::Line;
 use edit_model::{Row, Survey};
 use record_text::Texts;
 
-/// By what the records of a survey are checked: its lines, those that may be used, the column of each field, and
-/// the most work of a search.
+/// By what the records of a survey are checked. `given` are the lines of the rules, and then those of the
+/// proof's table; `usable` says of each whether a tree may name it. `columns` has the column of each
+/// field, and `budget` is the most work of a search.
 #[derive(Clone, Copy)]
 pub(crate) struct Checking<'a> {
     pub(crate) survey: &'a Survey,

@@ -1,4 +1,9 @@
-//! Whether claims of donors are in form.
+//! Whether claims of donors are in form: whether the record may claim, and whether it ranks few enough
+//! clean records, each once. Whether each claim is given the right donor is looked at elsewhere.
+//!
+//! In contracts, `OfCleanFlags clean` says that something holds for each survey and records whose clean
+//! ones `clean` tells. `AreCleanFlags` says that the flags tell which records are clean. `Decides` says
+//! that the answer is true exactly where the claim holds.
 ghost use Rattle.std.specs.Prelude.{◌≡◌, ◌≤◌, IfOk, IsSomeAnd, false, true, length, nat_eq, slice_get, slice_index_or};
 ghost use Rattle.std.specs.Bool.{Decides};
 ghost use Rattle.std.specs.List.{AllByRecursion, IsDistinct, list_all};
@@ -15,7 +20,7 @@ use proof_text::{ProofFile, RowPlace};
 use record_text::Sheet;
 use std::alloc::Global;
 
-/// For each record whether it is clean.
+/// For each record of the file whether it is clean, so that it may be a donor.
 pub(crate) fn clean_flags(
     alloc: Global,
     survey: &Survey,
@@ -31,7 +36,8 @@ pub(crate) fn clean_flags(
     Ok(flags)
 }
 
-/// How many claims stand before the first that is not in form. No memory.
+/// How many claims stand before the first that is not in form; the number of all where each is. `clean`
+/// says of each record whether it is clean. No memory.
 pub(crate) fn formed_count(said: &ProofFile, clean: &[bool]) -> usize
     ensures most { result ≤ length said.now.claims }
     ensures count { OfCleanFlags clean.now (λ survey rows. IsFormedCount survey rows said.now result) }
@@ -45,8 +51,8 @@ pub(crate) fn formed_count(said: &ProofFile, clean: &[bool]) -> usize
     claims.len()
 }
 
-// Whether a claim is in form: its record claims a donor, and ranks no more donors than may be ranked, each once. The
-// length is looked at first, so that no long ranking is searched.
+// Whether a claim is in form: its record claims a donor, and ranks clean records alone, each once, and no
+// more than may be ranked. The length is looked at first, so that no long ranking is searched.
 fn is_claim(said: &ProofFile, clean: &[bool], claim: &Entry) -> bool
     ensures { OfCleanFlags clean.now (λ survey rows. Decides result (IsClaim survey rows said.now claim.now)) }
 {
@@ -56,7 +62,8 @@ fn is_claim(said: &ProofFile, clean: &[bool], claim: &Entry) -> bool
             && (are_distinct(ranking) && are_clean(clean, ranking)))
 }
 
-// Whether the record of this number is there, and claims a donor.
+// Whether there is a record of the number `row_no`, and it claims a donor. `saids` has the place of each
+// record in the proof.
 fn row_claims(saids: &[RowPlace], row_no: u32) -> bool
     ensures { Decides result (IsSomeAnd (slice_get saids.now row_no) (λ said. claims_donor said.outcome ≡ true)) }
 {
@@ -66,7 +73,7 @@ fn row_claims(saids: &[RowPlace], row_no: u32) -> bool
     }
 }
 
-// Whether no donor stands twice.
+// Whether no donor stands twice in the ranking. The time is quadratic in its length, which is at most 64.
 fn are_distinct(ranking: &[u32]) -> bool
     ensures { Decides result (IsDistinct nat_eq ranking.now) }
 {
@@ -78,14 +85,14 @@ fn are_distinct(ranking: &[u32]) -> bool
     true
 }
 
-// Whether each donor is one of the records, and clean.
+// Whether each donor of the ranking is the number of a record that is there, and is clean.
 fn are_clean(clean: &[bool], ranking: &[u32]) -> bool
     ensures { result ≡ list_all (λ donor. slice_index_or clean.now donor false) ranking.now }
 {
     ranking.iter().all(|donor| is_donor(clean, *donor))
 }
 
-// Whether the donor is one of the records, and clean.
+// Whether `donor` is the number of a record that is there, and is clean.
 fn is_donor(clean: &[bool], donor: u32) -> bool
     ensures { result ≡ slice_index_or clean.now donor false }
 {

@@ -1,4 +1,8 @@
 //! Whether each record that claims a donor has a claim.
+//!
+//! In contracts, `Decides` says that the answer is true exactly where the claim holds. `AreMarked` says
+//! that each record is marked exactly where it has a claim, and `AllMarked` that each which claims a donor
+//! is marked.
 ghost use Rattle.std.specs.Prelude.{◌≡◌, ◌<◌, All, IfOk, length};
 ghost use Rattle.std.specs.Bool.{Decides};
 ghost use Rattle.cert_check.specs.Claims.{AllClaim};
@@ -9,7 +13,8 @@ use foundation::OutOfMemory;
 use proof_text::{ProofFile, RowPlace};
 use std::alloc::Global;
 
-/// Whether each record that claims a donor has a claim. The claims are of records that are there.
+/// Whether each record that claims a donor has a claim in the proof. The claims are of records that are
+/// there, since they are in form.
 pub(crate) fn all_claim(alloc: Global, said: &ProofFile) -> Result<bool, OutOfMemory>
     requires there { All (λ entry. entry.row_no < length said.now.rows) said.now.claims }
     ensures { IfOk result (λ b. Decides b (AllClaim said.now)) }
@@ -18,7 +23,7 @@ pub(crate) fn all_claim(alloc: Global, said: &ProofFile) -> Result<bool, OutOfMe
     Ok(are_marked(said.rows(), &claimed))
 }
 
-// For each record whether it has a claim.
+// For each record whether the proof has a claim of it.
 fn claimed_rows(alloc: Global, said: &ProofFile) -> Result<Vec<bool>, OutOfMemory>
     requires there { All (λ entry. entry.row_no < length said.now.rows) said.now.claims }
     ensures { IfOk result (λ marks. AreMarked said.now.claims (length said.now.rows) marks.items) }
@@ -30,7 +35,8 @@ fn claimed_rows(alloc: Global, said: &ProofFile) -> Result<Vec<bool>, OutOfMemor
     Ok(marks)
 }
 
-// Whether each record that claims a donor is marked.
+// Whether each record that claims a donor is marked as one that has a claim. `saids` has the place of each
+// record in the proof, and `marks` its mark.
 fn are_marked(saids: &[RowPlace], marks: &[bool]) -> bool
     requires { length marks.now ≡ length saids.now }
     ensures { Decides result (AllMarked saids.now marks.now) }

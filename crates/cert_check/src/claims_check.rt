@@ -1,4 +1,8 @@
-//! Whether the claims of donors in a proof are right, and the line of their first fault.
+//! Whether the claims of donors in a proof are right: in form, and each given the donor that the claims
+//! before it leave. There has to be one for each record that claims.
+//!
+//! In contracts `FindsClaims` and `FindsClaim` say that the claims are right, or that the answer is their
+//! first fault. `IsCounted` says that 64 bits count the lines of the proof.
 ghost use Rattle.std.specs.Prelude.{◌≡◌, IfOk, length};
 ghost use Rattle.std.specs.List.{AllByRecursion};
 ghost use Rattle.edit_model.specs.Rows.{IsRow};
@@ -15,8 +19,9 @@ use proof_text::ProofFile;
 use record_text::Sheet;
 use std::alloc::Global;
 
-/// The line of the first fault of the claims, if there is one: that of the first wrong claim, or that of their count
-/// where all are right and some record that claims a donor has none.
+/// The line in the proof of the first fault of the claims, or None where they are right. It is that of the
+/// first wrong claim. Where none is wrong, but some record that claims a donor has no claim, it is the
+/// line that counts the claims.
 pub(crate) fn claims_fault(
     alloc: Global,
     survey: &Survey,
@@ -38,8 +43,9 @@ pub(crate) fn claims_fault(
     }
 }
 
-// The place of the first claim that is wrong: of those in form the first that is not legal, or else the first that is
-// not in form. Which records are clean is looked at only where there are claims.
+// The place, from 0, of the first claim that is wrong, or None. A claim before the first that is not in
+// form is wrong where those before leave its record another donor, or it claimed already. Where none of
+// these is wrong, the first that is not in form is.
 fn wrong_claim(
     alloc: Global,
     survey: &Survey,

@@ -1,4 +1,10 @@
-//! Whether what a proof says of the lines of the rules is right: each line that it drops is refuted.
+//! Whether what a proof says of the lines of the rules is right. Each line that it drops follows from
+//! those that are left, as steps show that refute its negation.
+//!
+//! In contracts `IsFaultAt` says that the answer is the first fault, or that there is none. `IsAmong` says
+//! that the fault stands on one of the lines of what is checked. `AreOver` says that lines are over the
+//! survey's fields. `IsCounted` says that 64 bits count the lines of the proof. `row` is a record without
+//! values. `lines` and `left` are the same after each call, unless memory is refused.
 ghost use Rattle.std.specs.Prelude.{◌≡◌, ◌<◌, ◌+◌, ◌^◌, IfOk, OnOk, Some, is_none, length, map};
 ghost use Rattle.std.specs.List.{flat_map};
 ghost use Rattle.edit_model.specs.Rows.{IsRow};
@@ -19,8 +25,8 @@ use foundation::{OutOfMemory, Sequence};
 use proof_text::ProofFile;
 use std::alloc::Global;
 
-/// The first line of the proof at which what it says of the lines of the rules is not right. The lines are lent
-/// for writing, so that none is copied for each line that is dropped; they are the same afterwards.
+/// The first line of the proof at which what it says of the lines of the rules is not right, or None.
+/// `lines` are lent for writing, so that none is copied for each line that is dropped.
 pub(crate) fn drop_fault(
     alloc: Global,
     survey: &Survey,
@@ -40,8 +46,9 @@ pub(crate) fn drop_fault(
     }
 }
 
-// How many lines behind the first verdict the first fault is, if there is one. When a line is looked at, the
-// ones before it are left, and of the later ones those that are kept.
+// How many lines behind the line of the first verdict the first fault is, or None. When a line is tried,
+// those before it may be used, dropped ones too, and of the later ones those that are kept. So no two
+// dropped lines follow from each other alone.
 fn verdicts_fault(
     alloc: Global,
     survey: &Survey,
@@ -71,7 +78,7 @@ fn verdicts_fault(
     Ok(None)
 }
 
-/// For each line of the rules whether it is kept.
+/// For each line of the rules whether the proof keeps it.
 pub(crate) fn kept_flags(
     alloc: Global,
     verdicts: &[Option<Sequence<Step>>],
@@ -85,8 +92,9 @@ pub(crate) fn kept_flags(
     Ok(flags)
 }
 
-// How many lines behind its first line the fault of what is said of the line at the place is, if there is one. An
-// equality may not be dropped.
+// How many lines behind the verdict's first line its fault is, or None where it is right. `verdict` is on
+// the line of the rules at `place`: keeping it is right, and an equality may not be dropped. `left` says
+// which lines the refutation may use.
 fn verdict_fault(
     alloc: Global,
     survey: &Survey,
@@ -116,8 +124,9 @@ fn verdict_fault(
     }
 }
 
-// How many lines behind its first line the fault of a refutation of the line at the place is, if there is one. The line's
-// negation stands behind the lines while the steps are checked.
+// How many lines behind the verdict's first line the fault is of `steps`, or None. They have to refute the
+// line at `place`. The line's negation stands behind the lines while the steps are checked, and is taken
+// off again.
 fn refutation_fault(
     alloc: Global,
     survey: &Survey,
@@ -147,8 +156,10 @@ fn refutation_fault(
     Ok(found)
 }
 
-// How many lines behind the one that drops a line the first fault of these steps is, if there is one: that line
-// itself where there are no steps, or where they prove what some point meets.
+// How many lines behind the one that drops a line the first fault of these steps is, or None. It is 0
+// where there are no steps, or where some point meets what they prove. `given` has the negation of the
+// dropped line last, and `usable` says which lines a step may name. `row` has no values, and no field of
+// it is kept.
 fn steps_fault(
     alloc: Global,
     survey: &Survey,

@@ -1,3 +1,4 @@
+//! Why files are no valid release, and the words that `check` prints for it.
 use foundation::OutOfMemory;
 use std::{error, fmt};
 
@@ -8,8 +9,8 @@ pub enum Why {
     Grammar,
     /// The limits, or the counts of lines or of records, do not fit the rules and the records.
     Head,
-    /// A line of the rules is dropped, and the steps do not refute its negation: the line is the first step that is
-    /// not valid, or the one that drops the line.
+    /// A line of the rules is dropped, and the steps do not refute its negation. What is told is the line
+    /// of the first step that is not valid, or the one that drops the line.
     Drop,
     /// A step of the table gives no line: the line is the first such step.
     Table,
@@ -17,8 +18,8 @@ pub enum Why {
     Cert,
     /// The released file is not what the proof tells of. Line 0 is the file as a whole.
     RowText,
-    /// The claims of donors are not right: the line is that of the first wrong one, or that of their count where all
-    /// are right and some record that claims a donor has none.
+    /// The claims of donors are not right: the line is that of the first wrong one. Where all are right and
+    /// some record that claims a donor has none, it is that of their count.
     Claims,
 }
 
@@ -28,6 +29,7 @@ impl fmt::Display for Why {
 
     ghost output = { λ why. Some (why_text why) };
 
+    // Writes the name of the condition, as `Cert`.
     fn fmt<W: fmt::Write>(&self, f: &mut fmt::Formatter<W>) -> fmt::Result {
         f.write_str(match self {
             Why::Grammar => "Grammar",
@@ -44,8 +46,8 @@ impl fmt::Display for Why {
 /// Why files are no valid release.
 #[derive(Clone, Copy, Debug, PartialEq, Eq)]
 pub enum CheckFault {
-    /// The line of the proof file, from 1, at which the first condition fails, and which one it is; line 0 where
-    /// it is the released file as a whole.
+    /// The line of the proof file, from 1, at which the first condition fails, and which condition that
+    /// is. Line 0 is the released file as a whole.
     Rejected { line: u64, why: Why },
     /// Memory was refused.
     OutOfMemory,
@@ -57,6 +59,7 @@ impl fmt::Display for CheckFault {
 
     ghost output = { λ fault. Some (fault_text fault) };
 
+    // Writes the line of the proof and the name of the condition, as `proof line 7 Cert`.
     fn fmt<W: fmt::Write>(&self, f: &mut fmt::Formatter<W>) -> fmt::Result {
         match self {
             CheckFault::Rejected { line, why } => write!(f, "proof line {line} {why}"),
@@ -73,6 +76,7 @@ impl From<OutOfMemory> for CheckFault {
 
     ghost from_gives = { λ _ fault. fault ≡ faults.OutOfMemory };
 
+    // Refused memory becomes the fault `OutOfMemory`, so that `?` passes it on.
     fn from(_refused: OutOfMemory) -> Self {
         CheckFault::OutOfMemory
     }

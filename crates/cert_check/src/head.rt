@@ -1,4 +1,6 @@
-//! Whether a proof fits the rules and the records.
+//! Whether the first lines of a proof fit the rules and the records: its limits and its counts.
+//!
+//! In contracts, `IsCounted` says that 64 bits count the lines of the proof.
 ghost use Rattle.std.specs.Prelude.{◌≡◌, length};
 ghost use Rattle.cert_check.specs.Releases.{head_fault_of, limits_fit};
 ghost use Rattle.cert_check.specs.inner.Counts.{IsCounted};
@@ -7,7 +9,9 @@ use crate::line_counts::records_line;
 use edit_line::Line;
 use proof_text::ProofFile;
 
-/// The first line that does not fit: the limits, the count of the lines of the rules, or the count of the records.
+/// The first line of the proof that does not fit, or None. It may be line 2, with the limits, or line 3,
+/// with the count of the lines of the rules (`lines`). Last comes the line that counts the records
+/// (`records`).
 pub(crate) fn head_fault(proof: &ProofFile, lines: &[Line], records: u32) -> Option<u64>
     requires { IsCounted proof.now }
     ensures { result ≡ head_fault_of (length lines.now) records proof.now }
@@ -24,7 +28,8 @@ pub(crate) fn head_fault(proof: &ProofFile, lines: &[Line], records: u32) -> Opt
     None
 }
 
-// Whether the limits of the run are in their own limits.
+// Whether the limits that the proof tells are such as a run may have. A donor is given 1 to 1000 times, 1
+// to 64 donors are ranked, and the budget is 1 to 1,000,000,000.
 fn limits_fit(proof: &ProofFile) -> bool
     ensures { result ≡ limits_fit proof.now }
 {

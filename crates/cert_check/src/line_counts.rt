@@ -1,4 +1,8 @@
-//! How many lines the parts of a proof take, and the numbers of some of its lines.
+//! How many lines the parts of a proof take, and the numbers of some of its lines, by which faults are
+//! told.
+//!
+//! In contracts, `IsCounted` says that 64 bits count the lines of the proof. `AreCounted` says so of
+//! leaves and the head before them.
 ghost use Rattle.std.specs.Prelude.{◌≡◌, ◌<◌, ◌^◌, IfOk, length};
 ghost use Rattle.std.specs.List.{flat_map};
 ghost use Rattle.cert_check.specs.Places.{claims_line, records_line, table_line};
@@ -11,7 +15,7 @@ use foundation::{OutOfMemory, Sequence};
 use proof_text::{ProofFile, RowPlace};
 use std::alloc::Global;
 
-/// How many lines the leaves take. No memory.
+/// How many lines of a proof file the leaves take. No memory.
 pub(crate) fn leaves_line_count(leaves: &[Leaf]) -> u64
     requires { AreCounted leaves.now }
     ensures { result ≡ length (flat_map leaf_lines leaves.now) }
@@ -34,7 +38,8 @@ pub(crate) fn leaf_line_count(leaf: &Leaf) -> u64
     }
 }
 
-/// How many lines what is said of a record takes. No memory.
+/// How many lines what is said of a record takes: its head, and those of its leaves where it has a tree. A
+/// clean record is one line, though its proof holds a leaf. No memory.
 pub(crate) fn row_line_count(said: &RowProof) -> u64
     requires { length (row_lines said.now) < 2 ^ 64 }
     ensures { result ≡ length (row_lines said.now) }
@@ -48,7 +53,8 @@ pub(crate) fn row_line_count(said: &RowProof) -> u64
     }
 }
 
-// How many lines what is said of the records takes. Each row is read at its place, and let go.
+// How many lines what is said of the records takes. Each row is read at its place, and dropped once it is
+// counted.
 fn rows_line_count(alloc: Global, rows: &[RowPlace]) -> Result<u64, OutOfMemory>
     requires { length (flat_map row_lines rows.now) < 2 ^ 64 }
     ensures { IfOk result (λ count. count ≡ length (flat_map row_lines rows.now)) }
@@ -61,7 +67,7 @@ fn rows_line_count(alloc: Global, rows: &[RowPlace]) -> Result<u64, OutOfMemory>
     Ok(count)
 }
 
-/// How many lines a verdict takes. No memory.
+/// How many lines a verdict takes: one, and one for each step of a line that is dropped. No memory.
 pub(crate) fn verdict_line_count(verdict: &Option<Sequence<Step>>) -> u64
     requires { length (verdict_lines verdict.now) < 2 ^ 64 }
     ensures { result ≡ length (verdict_lines verdict.now) }
@@ -72,7 +78,7 @@ pub(crate) fn verdict_line_count(verdict: &Option<Sequence<Step>>) -> u64
     }
 }
 
-// How many lines the verdicts take.
+// How many lines of a proof file the verdicts take.
 fn verdicts_line_count(verdicts: &[Option<Sequence<Step>>]) -> u64
     requires { length (flat_map verdict_lines verdicts.now) < 2 ^ 64 }
     ensures { result ≡ length (flat_map verdict_lines verdicts.now) }
@@ -84,7 +90,7 @@ fn verdicts_line_count(verdicts: &[Option<Sequence<Step>>]) -> u64
     count
 }
 
-// How many lines the table takes.
+// How many lines the table takes: one that counts its steps, and one for each; none in version 1.
 fn table_line_count(proof: &ProofFile) -> u64
     requires { length (table_lines (has_table proof.now.version) proof.now.table) < 2 ^ 64 }
     ensures { result ≡ length (table_lines (has_table proof.now.version) proof.now.table) }
@@ -96,7 +102,8 @@ fn table_line_count(proof: &ProofFile) -> u64
     }
 }
 
-/// The number of the line that counts the steps of the table, from 1, where there is one. No memory.
+/// The number of the line that counts the steps of the table, from 1, where there is one. Before the
+/// verdicts stand three lines: the version, the limits, and the count of the verdicts. No memory.
 pub(crate) fn table_line(proof: &ProofFile) -> u64
     requires { IsCounted proof.now }
     ensures { result ≡ table_line proof.now }
@@ -112,8 +119,8 @@ pub(crate) fn records_line(proof: &ProofFile) -> u64
     table_line(proof) + table_line_count(proof)
 }
 
-/// The number of the line that counts the claims, from 1. Each row is read once more, so it is asked for only where some claim is
-/// at fault.
+/// The number of the line that counts the claims, from 1. For it each row is read once more, so it is
+/// asked for only where some claim is at fault.
 pub(crate) fn claims_line(alloc: Global, proof: &ProofFile) -> Result<u64, OutOfMemory>
     requires { IsCounted proof.now }
     ensures { IfOk result (λ line. line ≡ claims_line proof.now) }

@@ -1,4 +1,8 @@
-//! The values that a released row gives.
+//! The values that a released row gives a record: those that were read at kept fields, and other ones at
+//! changed fields.
+//!
+//! In contracts, `IsChecking` says that the parts of `checking` fit each other. `AreNewValues` says that
+//! these are the values that the texts give, and `only` that no others are.
 ghost use Rattle.std.specs.Prelude.{◌≡◌, ◌<◌, All, IfOk, IfSome, IsSomeAnd, false, length};
 ghost use Rattle.edit_model.specs.Rows.{IsRow};
 ghost use Rattle.edit_model.specs.Surveys.{IsKind};
@@ -15,8 +19,9 @@ use fraction128::Fraction;
 use record_text::Texts;
 use std::alloc::Global;
 
-/// The value of each field: of a field that is kept the one that was read, and else another one, by its text. None
-/// where some field has no such value.
+/// The value of each field, in declared order. Of a field that `path` keeps it is the one that was read.
+/// Of a changed one it is that of its released text, which has to be another one. None where some changed
+/// field has no such value.
 pub(crate) fn new_values(
     alloc: Global,
     checking: &Checking,
@@ -42,7 +47,8 @@ pub(crate) fn new_values(
     Ok(Some(values))
 }
 
-// The value of the field of this number.
+// The new value of the field of this number. None where `path` changes the field, and its text gives no
+// value but the one that was read.
 fn value_at(
     checking: &Checking,
     row: &Row,
@@ -66,7 +72,7 @@ fn value_at(
     }
 }
 
-// The value of the text, if it is not the one that was read.
+// The value of `text`, or None where it gives none, or the one that was read (`read`).
 fn other_value(kind: &Kind, text: &[u8], read: &Value) -> Option<Value>
     requires { IsKind kind.now }
     ensures value { IfSome result (λ v. IsGivenText kind.now text.now v × (is_same v read.now ≡ false)) }
@@ -84,7 +90,8 @@ fn other_value(kind: &Kind, text: &[u8], read: &Value) -> Option<Value>
     }
 }
 
-// The value of which this is the text.
+// The value that has this text, byte for byte: a fraction in its one printed spelling, or a code. None
+// where no value has it.
 fn given_value(kind: &Kind, text: &[u8]) -> Option<Value>
     requires { IsKind kind.now }
     ensures given { IfSome result (IsGivenText kind.now text.now) }
@@ -102,7 +109,7 @@ fn given_value(kind: &Kind, text: &[u8]) -> Option<Value>
     }
 }
 
-// The place of the code that the text is.
+// The place of the code that has these bytes, or None where none has.
 fn code_place(codes: &[Name], text: &[u8]) -> Option<usize>
     ensures place { result ≡ code_number codes.now text.now }
     ensures within { IfSome result (λ place. place < length codes.now) }
@@ -110,7 +117,8 @@ fn code_place(codes: &[Name], text: &[u8]) -> Option<usize>
     codes.iter().position(|code| code.as_bytes() == text)
 }
 
-// Whether two values are the same code, or the same number.
+// Whether two values are the same code, or the same number. A value that is `Bad` is not the same as any,
+// not even as another `Bad`.
 fn is_same(first: &Value, second: &Value) -> bool
     ensures { result ≡ is_same first.now second.now }
 {

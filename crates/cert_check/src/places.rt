@@ -5,7 +5,8 @@ ghost use Rattle.cert_check.specs.Releases.{is_released};
 
 use proof_text::RowPlace;
 
-/// Whether the record is released: a change was found, and its values were given. No memory.
+/// Whether the record is released: a change was found, and its values were given. A clean record counts as
+/// a change of weight 0. No memory.
 pub(crate) fn is_released(place: &RowPlace) -> bool
     ensures { result ≡ is_released place.now }
 {
@@ -15,7 +16,8 @@ pub(crate) fn is_released(place: &RowPlace) -> bool
     }
 }
 
-/// Whether the record claims a donor. No memory.
+/// Whether the record claims a donor: a change of some weight was found, whether its values could be given
+/// or not. No memory.
 pub(crate) fn claims_donor(place: &RowPlace) -> bool
     ensures { result ≡ claims_donor place.now.outcome }
 {

@@ -1,4 +1,9 @@
-//! The rows of a released file.
+//! The rows of a released file, read as texts: whether it has the records' header and as many rows as the
+//! proof tells.
+//!
+//! In contracts, `AreRowsOf` says that the bytes are this header and these rows. `AreInLimits` says that a
+//! record file may have such a header and `count` rows. `Decides` says that the answer is true exactly
+//! where the claim holds.
 ghost use Rattle.std.specs.Prelude.{◌≡◌, [], ℕ, List, IfNone, IfOk, IfSome, length};
 ghost use Rattle.std.specs.Bool.{Decides};
 ghost use Rattle.cert_check.specs.inner.Rows.{AreInLimits, AreRowsOf};
@@ -8,8 +13,8 @@ use foundation::OutOfMemory;
 use record_text::{Sheet, SheetFault, Texts, read_records};
 use std::alloc::Global;
 
-/// The rows of the released bytes, if these are, as a record file, the header and `count` rows as long as it. The
-/// file is read as one of no fields: its texts stand for no values yet.
+/// The rows of the released bytes, if these are, as a record file, `header` and `count` rows as long as
+/// it. None where they are not. The file is read as one of no fields: its texts stand for no values yet.
 pub(crate) fn released_rows(
     alloc: Global,
     header: &Texts,
@@ -27,14 +32,14 @@ pub(crate) fn released_rows(
     }
 }
 
-// A survey of no fields.
+// A survey of no fields, for which any header will do.
 fn no_fields(alloc: Global) -> Result<Survey, OutOfMemory>
     ensures { IfOk result (λ survey. survey.fields ≡ []) }
 {
     Survey::of(alloc, Vec::new(alloc), Vec::new(alloc))
 }
 
-// The sheet, if it has this header and `count` rows.
+// The sheet, if it has this header and `count` rows, and else None.
 fn if_fits(header: &Texts, sheet: Sheet, count: u32) -> Option<Sheet>
     ensures some { IfSome result (λ kept. (kept ≡ sheet) × (sheet.header ≡ header.now) × (length sheet.rows ≡ count)) }
     ensures none { IfNone result ((sheet.header ≡ header.now) → ¬ (length sheet.rows ≡ count)) }
@@ -46,7 +51,7 @@ fn if_fits(header: &Texts, sheet: Sheet, count: u32) -> Option<Sheet>
     }
 }
 
-// Whether the texts are the same.
+// Whether both lists have the same texts in the same order.
 fn are_equal(texts: &Texts, others: &Texts) -> bool
     ensures { Decides result (texts.now ≡ others.now) }
 {

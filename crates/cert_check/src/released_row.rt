@@ -1,4 +1,9 @@
-//! Whether the row that is released of a record gives what it has to.
+//! Whether the row that is released of a record gives what it has to. Those are the texts that were read
+//! but for the changed fields, other values for these, and a clean record.
+//!
+//! In contracts, `IsChecking` says that the parts of `checking` fit each other, and `FitsFiles` that those
+//! of the record fit them. `Decides` says that the answer is true exactly where the claim holds.
+//! `rules_in` and `files_in` are `checking` and `files` as values.
 ghost use Rattle.std.specs.Prelude.{◌<◌, All, IfOk, length};
 ghost use Rattle.std.specs.Bool.{Decides};
 ghost use Rattle.edit_model.specs.Rows.{IsRow};
@@ -14,7 +19,9 @@ use foundation::OutOfMemory;
 use record_text::Texts;
 use std::alloc::Global;
 
-/// Whether texts are released for the record, of which the path changes some fields.
+/// Whether the right texts are released for the record, of which `path` changes some fields or none. These
+/// are the texts that were read, but at changed fields others, with which the record is clean. They aren't
+/// right where the released file has no row for the record.
 pub(crate) fn is_released(
     alloc: Global,
     checking: &Checking,
@@ -38,7 +45,8 @@ pub(crate) fn is_released(
     }
 }
 
-// Whether the texts give each field a value, and the record of these is clean.
+// Whether the texts give each changed field a value other than the one that was read, and the record is
+// clean with all values.
 fn gives_clean(
     alloc: Global,
     checking: &Checking,

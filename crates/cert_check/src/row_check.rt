@@ -1,4 +1,10 @@
-//! Whether what a proof says of a record is right.
+//! Whether what a proof says of one record is right: its path and weight, its tree, and the row that is
+//! released of it.
+//!
+//! In contracts `FindsSaid` and its like say that what is checked is right, or that the answer is its
+//! first fault. `IsWithin` and `IsAmong` say that the fault stands on one of the record's lines.
+//! `IsChecking` says that the parts of `checking` fit each other, and `FitsFiles` that those of the record
+//! fit them. `rules_in` and `files_in` are `checking` and `files` as values.
 ghost use Rattle.std.specs.Prelude.{◌≡◌, ◌<◌, ◌+◌, ◌^◌, IfOk, None, Some, if◌then◌else◌, length, option_map};
 ghost use Rattle.std.specs.List.{flat_map};
 ghost use Rattle.bound_cert.specs.declared.outcome.Outcome.TheVariants.{Change};
@@ -15,14 +21,16 @@ use bound_cert::{Cert, GiftFault, Outcome, Path, RowProof};
 use foundation::OutOfMemory;
 use std::alloc::Global;
 
-/// The first fault of what a proof says of a record: how many lines behind its head, and why.
+/// The first fault of what a proof says of records, and why it is one. `offset` is how many lines behind
+/// the head of a record it stands; of all records, behind the head of the first.
 #[derive(Clone, Copy, Debug, PartialEq, Eq)]
 pub(crate) struct RowFault {
     pub(crate) offset: u64,
     pub(crate) why: Why,
 }
 
-/// The first fault of what is said of a record, if there is one.
+/// The first fault of what is said of a record, or None where it is right. That a budget was passed, or
+/// that a number left the range, is taken on trust. Of these no more is checked than that the numbers fit.
 pub(crate) fn row_fault(
     alloc: Global,
     checking: &Checking,
@@ -50,7 +58,8 @@ pub(crate) fn row_fault(
     }
 }
 
-// The first fault of a change that was given values.
+// The first fault of a change that was given values: of its path, weight or tree, and then of the released
+// row.
 fn change_fault(
     alloc: Global,
     checking: &Checking,
@@ -83,7 +92,8 @@ fn change_fault(
     }
 }
 
-// The first fault of a change to which no values were given.
+// The first fault of a change to which no values were given, since a number left the range. It is one of
+// its path, weight or tree, and then of what is said of that number.
 fn gift_fault(
     alloc: Global,
     checking: &Checking,
@@ -108,8 +118,8 @@ fn gift_fault(
     }
 }
 
-// How many lines behind the head the first fault of a change's path, weight or tree is. A change of nothing needs
-// no tree.
+// How many lines behind the head the first fault of a change's path, weight or tree is, or None where
+// there is none. A change of weight 0 needs no tree.
 fn tree_of_change(
     alloc: Global,
     checking: &Checking,
@@ -131,7 +141,8 @@ fn tree_of_change(
     }
 }
 
-// How many lines behind the head the first fault of the path, the weight or the tree is.
+// How many lines behind the head the first fault of the path, the weight or the tree is, or None where
+// there is none. One of the path or of the weight is at the head itself.
 fn path_fault(
     alloc: Global,
     checking: &Checking,
@@ -153,7 +164,7 @@ fn path_fault(
     }
 }
 
-// The fault at the head of a record, unless what it says is right.
+// None where what the head of a record says is `right`, and else the fault `Cert` at the head.
 fn head_fault(right: bool) -> Option<RowFault>
     ensures { result ≡ (if right then None else Some (record { offset = 0; why = Why.Cert })) }
 {
@@ -167,7 +178,7 @@ fn head_fault(right: bool) -> Option<RowFault>
     }
 }
 
-// The fault at this number of lines behind the head of a record, if there is one.
+// The fault `Cert` that stands `offset` lines behind the head of a record, if there is one.
 fn cert_fault(offset: Option<u64>) -> Option<RowFault>
     ensures { result ≡ option_map (λ offset. record { offset = offset; why = Why.Cert }) offset }
 {

@@ -1,4 +1,8 @@
-//! Whether what a proof says of all records is valid.
+//! Whether what a proof says of all records is right: each is checked with the released row that is its
+//! own.
+//!
+//! In contracts, `FindsAmong` says that what is said of all records is right, or that the answer is its
+//! first fault.
 ghost use Rattle.std.specs.Prelude.{◌≡◌, ◌<◌, ◌^◌, All, IfOk, drop, length, option_map};
 ghost use Rattle.std.specs.List.{AllByRecursion, flat_map};
 ghost use Rattle.cert_check.specs.Releases.{behind, next_texts};
@@ -16,8 +20,9 @@ use proof_text::RowPlace;
 use record_text::{Sheet, Texts};
 use std::alloc::Global;
 
-/// The first fault of what is said of the records, if there is one. Each row is read at its place, and let go. The
-/// released rows are those of the records that are released, in order.
+/// The first fault of what is said of the records, or None; its offset is behind the head of the first
+/// record. `saids` are the places of the rows of the proof, each of which is read and dropped again.
+/// `released` has a row for each record that is released, in order.
 pub(crate) fn rows_fault(
     alloc: Global,
     checking: &Checking,
@@ -53,7 +58,8 @@ pub(crate) fn rows_fault(
     Ok(None)
 }
 
-// The record of this number, with the next released row if it is released.
+// The record of the number `row_no`, with the released row at place `next` if it is released. `place` is
+// that of its row in the proof.
 fn files_at<'a>(
     place: &RowPlace,
     records: &'a Sheet,
@@ -72,7 +78,7 @@ fn files_at<'a>(
     }
 }
 
-// The released texts at the next place, if the record is released.
+// The released texts at place `next`, if the record is released and the file has that row; else None.
 fn texts_at<'a>(place: &RowPlace, released: &'a Sheet, next: u32) -> Option<&'a Texts>
     ensures { option_map (λ t. t.now) result ≡ next_texts place.now (drop next released.now.row_texts) }
 {
@@ -83,7 +89,8 @@ fn texts_at<'a>(place: &RowPlace, released: &'a Sheet, next: u32) -> Option<&'a 
     }
 }
 
-// The place of the next released row behind a record.
+// The place of the next released row once this record is checked: one further where the record took the row
+// at `next`.
 fn behind(place: &RowPlace, released: &Sheet, next: u32) -> u32
     ensures { drop result released.now.row_texts ≡ behind place.now (drop next released.now.row_texts) }
 {

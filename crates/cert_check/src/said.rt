@@ -1,4 +1,5 @@
-//! What a proof says of a record, but for its tree and the released row.
+//! What a proof says of a record, but for its tree and the released row: whether its numbers fit the record
+//! and the rules.
 ghost use Rattle.std.specs.Prelude.{◌≡◌};
 ghost use Rattle.edit_model.specs.Rows.{IsRow};
 ghost use Rattle.cert_check.specs.RowChecks.{event_exists, gift_exists, fits_change, place_exists};
@@ -7,8 +8,8 @@ use bound_cert::{Event, GiftFault, Path};
 use edit_line::Place;
 use edit_model::{Row, Survey};
 
-/// Whether the path says something of all fields, keeps none at which the record has no value, and has this weight.
-/// No memory.
+/// Whether the path is one of a change. It says something of each field, keeps none at which the record
+/// has no value, and has this `weight`. No memory.
 pub(crate) fn is_change(survey: &Survey, row: &Row, path: &Path, weight: u64) -> bool
     requires { IsRow survey.now.fields row.now }
     ensures { result ≡ fits_change survey.now.fields row.now path.now weight }
@@ -17,7 +18,8 @@ pub(crate) fn is_change(survey: &Survey, row: &Row, path: &Path, weight: u64) ->
         && (!path.keeps_bad(survey, row) && path.weight(survey) == weight)
 }
 
-/// Whether the field, or the rule, at which a giving stopped is there. No memory.
+/// Whether the field, or the rule, is there at which a number left the range while values were given. No
+/// memory.
 pub(crate) fn gift_exists(survey: &Survey, fault: GiftFault) -> bool
     ensures { result ≡ gift_exists survey.now fault }
 {
@@ -27,8 +29,8 @@ pub(crate) fn gift_exists(survey: &Survey, fault: GiftFault) -> bool
     }
 }
 
-/// Whether the path is no longer than the fields, and the field at which a number left the range is there. No
-/// memory.
+/// Whether the path is no longer than the fields, and the field is there at which a number left the range.
+/// Which number it was, is taken on trust. No memory.
 pub(crate) fn event_exists(survey: &Survey, path: &Path, event: Event) -> bool
     ensures { result ≡ event_exists survey.now.fields path.now event }
 {
@@ -39,7 +41,8 @@ pub(crate) fn event_exists(survey: &Survey, path: &Path, event: Event) -> bool
     }
 }
 
-// Whether the place of a number is that of a field that is there, or of the constant.
+// Whether `place`, at which a number of a line left the range, is that of one of the fields, or of the
+// constant.
 fn place_exists(survey: &Survey, place: Place) -> bool
     ensures { result ≡ place_exists survey.now.fields place }
 {

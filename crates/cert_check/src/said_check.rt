@@ -1,4 +1,8 @@
-//! Whether a proof, as it was read, is right for rules, records and released bytes.
+//! Whether a proof, as it was read, is right for rules, records and released bytes. It is looked at part by
+//! part: head, dropped lines, table, released file, records, claims.
+//!
+//! In contracts, `Answers` says that the files are a valid release, of so many released records, or that
+//! this condition is the first that fails. It holds for whichever bytes spell the proof (`Spells`).
 ghost use Rattle.std.specs.Prelude.{◌≡◌, ◌≤◌, ◌++◌, ℕ, List, None, length, map, true};
 ghost use Rattle.std.specs.List.{filter};
 ghost use Rattle.edit_line.specs.Lines.{AreOver};
@@ -38,8 +42,9 @@ pub(crate) struct Audit<'a> {
     pub(crate) released: &'a [u8],
 }
 
-/// How many records are released, where all is right, or the first condition that fails. The proof has no more lines
-/// than bytes.
+/// How many records are released, where all is right, or the first condition that fails. `said` is the
+/// proof, of which `bytes` is the number of bytes. It has no more lines than bytes, so that 64 bits count
+/// them.
 pub(crate) fn check_said(
     alloc: Global,
     audit: &Audit,
@@ -66,8 +71,9 @@ pub(crate) fn check_said(
     check_records(alloc, audit, &lines, &usable, said)
 }
 
-// How many records are released, or the first condition that fails, of a proof whose limits and counts fit, which
-// refutes each line of the rules that it drops, and whose table gives lines.
+// How many records are released, or the first condition that fails. Here the limits and counts of the proof
+// fit, each line of the rules that it drops is refuted, and its table gives lines. `lines` are those of the
+// rules and then those of the table; `usable` says which of them a tree may name.
 fn check_records(
     alloc: Global,
     audit: &Audit,
@@ -106,14 +112,15 @@ fn check_records(
     Ok(count)
 }
 
-/// The files are refused for this condition, which fails at this line.
+/// The refusal of the files for the condition `why`, which fails at this line of the proof.
 pub(crate) fn rejected(line: u64, why: Why) -> CheckFault
     ensures { result ≡ faults.Rejected line why }
 {
     CheckFault::Rejected { line, why }
 }
 
-// How many records are released.
+// How many records are released, by what the proof says of them. `saids` has the place of each record in
+// the proof.
 fn released_count(saids: &[RowPlace]) -> u32
     requires { length saids.now ≤ 200000 }
     ensures { result ≡ length (filter is_released saids.now) }

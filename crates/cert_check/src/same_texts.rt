@@ -1,4 +1,4 @@
-//! Whether a released row has the texts that were read, but for those of the changed fields.
+//! Whether a released row has the texts that were read, in all columns but those of the changed fields.
 ghost use Rattle.std.specs.Prelude.{◌≡◌, length};
 ghost use Rattle.bound_cert.specs.Paths.{changes};
 ghost use Rattle.cert_check.specs.Released.{may_be_released, same_from, stands_changed};
@@ -7,7 +7,8 @@ use crate::changed_fields::changes;
 use crate::checking::Checking;
 use record_text::Texts;
 
-/// Whether each text is the one that was read, or that of a field that the path changes. No memory.
+/// Whether each released text is the one that was read, or that of a field that `path` changes. `reads`
+/// and `texts` are the row as read and as released, and have as many texts. No memory.
 pub(crate) fn are_same(checking: &Checking, path: &[bool], reads: &Texts, texts: &Texts) -> bool
     requires { length texts.now ≡ length reads.now }
     ensures { result ≡ same_from (changes checking.now.survey.now.fields path.now) checking.now.columns.now 0 reads.now texts.now }
@@ -20,7 +21,8 @@ pub(crate) fn are_same(checking: &Checking, path: &[bool], reads: &Texts, texts:
     true
 }
 
-// Whether the text may stand in the column in which the other was read.
+// Whether `text` may stand where `read` was read: it is the same, or a field that `path` changes stands in
+// this column.
 fn may_be_released(
     checking: &Checking,
     path: &[bool],
@@ -33,7 +35,7 @@ fn may_be_released(
     text == read || stands_changed(checking, path, column)
 }
 
-// Whether a field that the path changes stands in the column.
+// Whether a field that the path changes stands in this column.
 fn stands_changed(checking: &Checking, path: &[bool], column: usize) -> bool
     ensures { result ≡ stands_changed (changes checking.now.survey.now.fields path.now) 0 checking.now.columns.now column }
 {

@@ -1,4 +1,5 @@
-//! Whether what a proof says of the lines that all records share is right.
+//! Whether each step of a proof's table gives a line. The table has the lines that all records share; its
+//! lines are then given to the trees, behind those of the rules.
 ghost use Rattle.std.specs.Prelude.{◌≡◌, ◌++◌, IfOk, None, Ok, OnOk, length, map, true};
 ghost use Rattle.edit_line.specs.Lines.{AreOver};
 ghost use Rattle.edit_line.specs.Shapes.{shape_of};
@@ -16,8 +17,9 @@ use foundation::OutOfMemory;
 use proof_text::ProofFile;
 use std::alloc::Global;
 
-/// The first line of the proof at which a step of its table gives no line. Where there is none, the lines of the
-/// table are put behind those of the rules, and may be used.
+/// The first line of the proof at which a step of its table gives no line, or None. Then the lines of the
+/// table are put behind those of the rules in `lines`, and are all marked as usable. Before, `lines` are
+/// those of the rules, and `usable` says which of them the proof keeps.
 pub(crate) fn table_fault(
     alloc: Global,
     survey: &Survey,
@@ -46,7 +48,7 @@ pub(crate) fn table_fault(
     }
 }
 
-// Puts the lines behind the others. They may be used.
+// Puts the lines `shared` behind the others, and marks each of them as usable.
 fn put_behind(
     lines: &mut Vec<Line>,
     usable: &mut Vec<bool>,

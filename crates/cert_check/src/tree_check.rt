@@ -1,4 +1,7 @@
-//! The tree of a record, and the line of its first fault.
+//! The tree of a record: whether it is valid, and the line of its first fault.
+//!
+//! In contracts `FindsInTree` says that the tree is valid, or that the answer is its first fault. `IsAmong`
+//! says that the fault stands on one of the record's lines.
 ghost use Rattle.std.specs.Prelude.{◌≡◌, ◌⊎◌, ◌<◌, ◌≤◌, ◌+◌, ◌^◌, [], IfOk, IfSome, None, length, take};
 ghost use Rattle.std.specs.List.{flat_map};
 ghost use Rattle.bound_cert.specs.ValidTrees.{IsNamedIn};
@@ -14,7 +17,8 @@ use bound_cert::{Cert, CertFault, Leaf, check_cert};
 use foundation::OutOfMemory;
 use std::alloc::Global;
 
-/// How many lines behind the head of the record the first fault of its tree is, if there is one.
+/// How many lines behind the head of the record the first fault of its tree is, or None. The tree has to
+/// show that no correction weighs less than `weight`, or, without one, that there is no correction.
 pub(crate) fn tree_fault(
     alloc: Global,
     checking: &Checking,
@@ -45,7 +49,8 @@ pub(crate) fn tree_fault(
     }
 }
 
-// How many lines behind the head the leaf, or its step, is; the head itself where there are no leaves.
+// How many lines behind the head of the record the leaf of number `leaf` is, or its `step`. It is 0, for
+// the head itself, where there are no leaves.
 fn tree_offset(leaves: &[Leaf], leaf: u64, step: Option<u64>) -> u64
     requires few { 1 + length (flat_map leaf_lines leaves.now) < 2 ^ 64 }
     requires named { ((leaves.now ≡ []) × (leaf ≡ 0) × (step ≡ None)) ⊎ IsNamedIn leaves.now leaf step }
@@ -58,7 +63,7 @@ fn tree_offset(leaves: &[Leaf], leaf: u64, step: Option<u64>) -> u64
     1 + (lines_before(leaves, leaf as usize) + step_offset(step))
 }
 
-// How many lines this number of first leaves have.
+// How many lines of a proof file the first `count` leaves take.
 fn lines_before(leaves: &[Leaf], count: usize) -> u64
     requires count { count ≤ length leaves.now }
     requires few { length (flat_map leaf_lines leaves.now) < 2 ^ 64 }
@@ -71,7 +76,8 @@ fn lines_before(leaves: &[Leaf], count: usize) -> u64
     lines
 }
 
-// How many lines behind the head of a leaf its fault is.
+// How many lines behind the head of a leaf its fault is: one more than the number of `step`. Without a step
+// it is 0, for the head itself.
 fn step_offset(step: Option<u64>) -> u64
     requires { IfSome step (λ s. s + 1 < 2 ^ 64) }
     ensures { result ≡ step_offset step }

@@ -17,7 +17,8 @@ pub some-part : (mark : ℕ) (bytes : List ℕ) → (s : List ℕ) × (ss : List
 some-part mark [] = ([], [], refl)
 some-part mark (b ∷ bytes) = by (b == mark) (some-part mark bytes)
   where
-    by : (c : Bool) → (s : List ℕ) × (ss : List (List ℕ)) × (split mark bytes ≡ s ∷ ss) → (s : List ℕ) × (ss : List (List ℕ)) × ((if c then [] ∷ split mark bytes else push b (split mark bytes)) ≡ s ∷ ss)
+    by : (c : Bool) → (s : List ℕ) × (ss : List (List ℕ)) × (split mark bytes ≡ s ∷ ss) → (s : List ℕ) × (ss : List (List ℕ))
+        × ((if c then [] ∷ split mark bytes else push b (split mark bytes)) ≡ s ∷ ss)
     by true (s, ss, is) = ([], split mark bytes, refl)
     by false (s, ss, is) = (b ∷ s, ss, ap (push b) is)
 
@@ -33,8 +34,10 @@ join-split mark (b ∷ bytes) = by (b == mark) refl (some-part mark bytes) (join
     by : (c : Bool) → (b == mark) ≡ c → (s : List ℕ) × (ss : List (List ℕ)) × (split mark bytes ≡ s ∷ ss) → join mark (split mark bytes) ≡ bytes
         → join mark (if c then [] ∷ split mark bytes else push b (split mark bytes)) ≡ b ∷ bytes
     by true is (s, ss, parts) rest =
-        ap (λ (ps : List (List ℕ)). join mark ([] ∷ ps)) parts ∙ ap (λ (k : ℕ). k ∷ join mark (s ∷ ss)) (sym ((Decides-eqb b mark).0 is)) ∙ ap (λ (bs : List ℕ). b ∷ bs) (ap (join mark) (sym parts) ∙ rest)
-    by false is (s, ss, parts) rest = ap (λ (ps : List (List ℕ)). join mark (push b ps)) parts ∙ join-push mark b s ss ∙ ap (λ (bs : List ℕ). b ∷ bs) (ap (join mark) (sym parts) ∙ rest)
+        ap (λ (ps : List (List ℕ)). join mark ([] ∷ ps)) parts ∙ ap (λ (k : ℕ). k ∷ join mark (s ∷ ss)) (sym ((Decides-eqb b mark).0 is))
+        ∙ ap (λ (bs : List ℕ). b ∷ bs) (ap (join mark) (sym parts) ∙ rest)
+    by false is (s, ss, parts) rest = ap (λ (ps : List (List ℕ)). join mark (push b ps)) parts ∙ join-push mark b s ss
+        ∙ ap (λ (bs : List ℕ). b ∷ bs) (ap (join mark) (sym parts) ∙ rest)
 
 -- whether a mark is not there
 abbrev pub without : ℕ → List ℕ → Bool
@@ -78,7 +81,8 @@ words-split (w ∷ v ∷ l) is =
 
 without-append : (mark : ℕ) (s t : List ℕ) → without mark s ≡ true → without mark t ≡ true → without mark (s ++ t) ≡ true
 without-append mark [] t first second = second
-without-append mark (b ∷ s) t first second = let (here, rest) = both_true (not (b == mark)) (without mark s) first in rw here (without-append mark s t rest second)
+without-append mark (b ∷ s) t first second = let (here, rest) = both_true (not (b == mark)) (without mark s) first in
+    rw here (without-append mark s t rest second)
 
 pub no-feed : (l : Line) → AllByRecursion IsWord l → without 10 (words_text l) ≡ true
 no-feed [] all = refl
@@ -94,7 +98,8 @@ lines-cut (l ∷ ls) all =
     ap (split 10) (append_assoc (words_text l) (10 ∷ []) (lines_text ls)) ∙ split-front 10 (words_text l) (lines_text ls) (no-feed l all.0.1) in
     let (s, ss, behind) = some-part 10 (lines_text ls) in
     ap lines_of_parts (parts ∙ ap (λ (ps : List (List ℕ)). words_text l ∷ ps) behind) ∙ more (words_text l) s ss
-    ∙ ap (λ (w : Line). w ∷ lines_of_parts (s ∷ ss)) (words-split l all.0) ∙ ap (λ (ps : List (List ℕ)). l ∷ lines_of_parts ps) (sym behind) ∙ ap (λ (ks : List Line). l ∷ ks) (lines-cut ls all.1)
+    ∙ ap (λ (w : Line). w ∷ lines_of_parts (s ∷ ss)) (words-split l all.0) ∙ ap (λ (ps : List (List ℕ)). l ∷ lines_of_parts ps) (sym behind)
+    ∙ ap (λ (ks : List Line). l ∷ ks) (lines-cut ls all.1)
   where
     more : (w s : List ℕ) (ss : List (List ℕ)) → lines_of_parts (w ∷ s ∷ ss) ≡ split 32 w ∷ lines_of_parts (s ∷ ss)
     more [] s ss = refl

@@ -5,7 +5,8 @@ use Rattle.std.proofs.lemmas.Fmt.{decimal_digit}
 use Rattle.donor_book.specs.declared.claim.Entry.{Entry}
 use Rattle.bound_cert.specs.Paths.{named}
 use Rattle.proof_grammar.specs.declared.heads.RunLimits.{RunLimits}
-use Rattle.proof_grammar.specs.inner.FileReading.{claim_behind, claim_in, count_in, drop_in, end_in, entry_of, keep_in, limits_in, verdict_in, version_in, version_said}
+use Rattle.proof_grammar.specs.inner.FileReading.{claim_behind, claim_in, count_in, drop_in, end_in, entry_of, keep_in, limits_in, verdict_in, version_in}
+use Rattle.proof_grammar.specs.inner.FileReading.{version_said}
 use Rattle.proof_grammar.proofs.HeadLines.{AreLimits, IsVerdictHead, limits_line, verdict_head}
 use Rattle.proof_grammar.specs.Limits.{IsEntry, IsLong, IsShort}
 use Rattle.proof_grammar.specs.ProofLines.{Line, claim_line, end_line, named_or_0, version_line}
@@ -24,16 +25,22 @@ abbrev Found : Option ℕ → List ℕ → Line → Type 0
 Found head word ws = IsVerdictHead head × (word ∷ ws ≡ verdict_head head)
 
 keep-found : (ws : Line) (head : Option ℕ) → keep_in ws ≡ Some head → Found head (codes "keep") ws
-keep-found ws head e = let (own, none) = end-found None head ws e in (subst IsVerdictHead own tt, ap (λ (v : Line). codes "keep" ∷ v) none ∙ ap verdict_head own)
+keep-found ws head e = let (own, none) = end-found None head ws e in (
+  subst IsVerdictHead own tt,
+  ap (λ (v : Line). codes "keep" ∷ v) none
+      ∙ ap verdict_head own,
+)
 
 drop-found : (ws : Line) (head : Option ℕ) → drop_in ws ≡ Some head → Found head (codes "drop") ws
 drop-found ws head e =
     let (n, w1, n_fits, e1, h1) = next-found IsLong decimal long_form ws _ head e in
-    let (own, none) = end-found (Some n) head w1 h1 in (subst IsVerdictHead own n_fits, ap (λ (v : Line). codes "drop" ∷ v) (e1 ∙ ap (λ (v : Line). decimal n ∷ v) none) ∙ ap verdict_head own)
+    let (own, none) = end-found (Some n) head w1 h1 in
+    (subst IsVerdictHead own n_fits, ap (λ (v : Line). codes "drop" ∷ v) (e1 ∙ ap (λ (v : Line). decimal n ∷ v) none) ∙ ap verdict_head own)
 
 pub verdict-found : (l : Line) (head : Option ℕ) → verdict_in l ≡ Some head → IsVerdictHead head × (l ≡ verdict_head head)
 verdict-found [] head e = absurd (cc (e))
-verdict-found (w ∷ ws) head e = first-found IsVerdictHead verdict_head ((codes "keep", keep_in) ∷ (codes "drop", drop_in) ∷ []) (keep-found, (drop-found, tt)) w ws head e
+verdict-found (w ∷ ws) head e = first-found IsVerdictHead verdict_head ((codes "keep", keep_in) ∷ (codes "drop", drop_in) ∷ []) (keep-found, (drop-found, tt)) w
+    ws head e
 
 pub verdict-again : (head : Option ℕ) → IsVerdictHead head → verdict_in (verdict_head head) ≡ Some head
 verdict-again None fits = refl
@@ -47,15 +54,20 @@ verdict_form = record { read = verdict_in; sample = None; sound_sample = tt; aga
 behind-found : (ws : Line) (entry : Entry) → claim_behind ws ≡ Some entry → IsEntry entry × (codes "claim" ∷ ws ≡ claim_line entry)
 behind-found ws entry e =
     let (row, w1, r_fits, e1, h1) = next-found IsShort named named_short_form ws _ entry e in
-    let (reply, w2, o_fits, e2, h2) = next-found IsOption named_or_0 option_form w1 _ entry h1 in by row reply w1 w2 r_fits o_fits e1 e2 (all_in named_short w2) refl h2
+    let (reply, w2, o_fits, e2, h2) = next-found IsOption named_or_0 option_form w1 _ entry h1 in
+    by row reply w1 w2 r_fits o_fits e1 e2 (all_in named_short w2) refl h2
   where
-    by : (row : ℕ) (reply : Option ℕ) (w1 w2 : Line) → IsShort row → IsOption reply → ws ≡ named row ∷ w1 → w1 ≡ named_or_0 reply ∷ w2 → (r : Option (List ℕ)) → all_in named_short w2 ≡ r → option_map (entry_of row reply) r ≡ Some entry
+    by : (row : ℕ) (reply : Option ℕ) (w1 w2 : Line) → IsShort row → IsOption reply → ws ≡ named row ∷ w1 → w1 ≡ named_or_0 reply ∷ w2 → (r : Option (List ℕ))
+        → all_in named_short w2 ≡ r → option_map (entry_of row reply) r ≡ Some entry
         → IsEntry entry × (codes "claim" ∷ ws ≡ claim_line entry)
     by row reply w1 w2 r_fits o_fits e1 e2 None is h = absurd (cc (h))
     by row reply w1 w2 r_fits o_fits e1 e2 (Some ranking) is h =
         let own : record { row_no = row; ranking = ranking; reply = reply } ≡ entry = cc (h) in
-        let (all, words) = all-found IsShort named named_short_form w2 ranking is in
-        (subst IsEntry own (r_fits, o_fits, all), ap (λ (v : Line). codes "claim" ∷ v) (e1 ∙ ap (λ (v : Line). named row ∷ v) (e2 ∙ ap (λ (v : Line). named_or_0 reply ∷ v) words)) ∙ ap claim_line own)
+        let (all, words) = all-found IsShort named named_short_form w2 ranking is in (
+          subst IsEntry own (r_fits, o_fits, all),
+          ap (λ (v : Line). codes "claim" ∷ v) (e1
+              ∙ ap (λ (v : Line). named row ∷ v) (e2 ∙ ap (λ (v : Line). named_or_0 reply ∷ v) words)) ∙ ap claim_line own,
+        )
 
 pub claim-found : (l : Line) (entry : Entry) → claim_in l ≡ Some entry → IsEntry entry × (l ≡ claim_line entry)
 claim-found l entry e =
@@ -64,10 +76,18 @@ claim-found l entry e =
 
 pub claim-again : (entry : Entry) → IsEntry entry → claim_in (claim_line entry) ≡ Some entry
 claim-again entry fits =
-    next-again IsShort named named_short_form entry.row_no _ _ fits.0 ∙ next-again IsOption named_or_0 option_form entry.reply _ _ fits.1 ∙ ap (option_map (entry_of entry.row_no entry.reply)) (all-again IsShort named named_short_form entry.ranking fits.2)
+    next-again IsShort named named_short_form entry.row_no _ _ fits.0 ∙ next-again IsOption named_or_0 option_form entry.reply _ _ fits.1
+    ∙ ap (option_map (entry_of entry.row_no entry.reply)) (all-again IsShort named named_short_form entry.ranking fits.2)
 
 abbrev pub claim_form : LineForm IsEntry claim_line
-claim_form = record { read = claim_in; sample = record { row_no = 0; ranking = []; reply = None }; sound_sample = (omega arith, tt, tt); again = claim-again; found = claim-found }
+claim_form = record {
+  read = claim_in;
+  sample = record { row_no = 0; ranking = []; reply = None };
+  sound_sample = (omega arith, tt, tt);
+  again =
+      claim-again;
+  found = claim-found;
+}
 
 -- ---- a count behind a word
 
@@ -75,7 +95,11 @@ pub count-found : (word : List ℕ) (l : Line) (n : ℕ) → count_in word l ≡
 count-found word l n e =
     let (u, w1, u_fits, e1, h1) = next-found Always (λ (u : Unit {0}). word) (fixed_form word) l _ n e in
     let (m, w2, m_fits, e2, h2) = next-found IsLong decimal long_form w1 _ n h1 in
-    let (own, none) = end-found m n w2 h2 in (subst IsLong own m_fits, e1 ∙ ap (λ (v : Line). word ∷ v) (e2 ∙ ap (λ (v : Line). decimal m ∷ v) none) ∙ ap (λ (k : ℕ). word ∷ decimal k ∷ []) own)
+    let (own, none) = end-found m n w2 h2 in (
+      subst IsLong own m_fits,
+      e1 ∙ ap (λ (v : Line). word ∷ v) (e2 ∙ ap (λ (v : Line). decimal m ∷ v) none)
+          ∙ ap (λ (k : ℕ). word ∷ decimal k ∷ []) own,
+    )
 
 pub count-again : (word : List ℕ) (n : ℕ) → IsLong n → count_in word (word ∷ decimal n ∷ []) ≡ Some n
 count-again word n fits = next-again Always (λ (u : Unit {0}). word) (fixed_form word) tt _ _ tt ∙ next-again IsLong decimal long_form n [] _ fits
@@ -94,16 +118,25 @@ limits-found l limits e =
     let (x, w5, x_fits, e5, h5) = next-found Always (λ (u : Unit {0}). codes "budget") (fixed_form (codes "budget")) w4 _ limits h4 in
     let (budget, w6, b_fits, e6, h6) = next-found IsLong decimal long_form w5 _ limits h5 in
     let (own, none) = end-found (record { limit = limit; near = near; budget = budget }) limits w6 h6 in
-    let last : w3 ≡ decimal near ∷ codes "budget" ∷ decimal budget ∷ [] = e4 ∙ ap (λ (v : Line). decimal near ∷ v) (e5 ∙ ap (λ (v : Line). codes "budget" ∷ v) (e6 ∙ ap (λ (v : Line). decimal budget ∷ v) none)) in
+    let last : w3 ≡ decimal near ∷ codes "budget" ∷ decimal budget ∷ [] = e4 ∙ ap (λ (v : Line). decimal near ∷ v)
+    (e5 ∙ ap (λ (v : Line). codes "budget" ∷ v) (e6 ∙ ap (λ (v : Line). decimal budget ∷ v) none)) in
     let words : l ≡ codes "limit" ∷ decimal limit ∷ codes "near" ∷ decimal near ∷ codes "budget" ∷ decimal budget ∷ [] =
     e1 ∙ ap (λ (v : Line). codes "limit" ∷ v) (e2 ∙ ap (λ (v : Line). decimal limit ∷ v) (e3 ∙ ap (λ (v : Line). codes "near" ∷ v) last)) in
     (subst AreLimits own (l_fits, n_fits, b_fits), words ∙ ap limits_line own)
 
 pub limits-again : (limits : RunLimits) → AreLimits limits → limits_in (limits_line limits) ≡ Some limits
-limits-again limits fits = next-again IsShort decimal short_form limits.limit _ _ fits.0 ∙ next-again IsShort decimal short_form limits.near _ _ fits.1 ∙ next-again IsLong decimal long_form limits.budget [] _ fits.2
+limits-again limits fits = next-again IsShort decimal short_form limits.limit _ _ fits.0 ∙ next-again IsShort decimal short_form limits.near _ _ fits.1
+    ∙ next-again IsLong decimal long_form limits.budget [] _ fits.2
 
 abbrev pub limits_form : LineForm AreLimits limits_line
-limits_form = record { read = limits_in; sample = record { limit = 0; near = 0; budget = 0 }; sound_sample = (omega arith, omega arith, omega arith); again = limits-again; found = limits-found }
+limits_form = record {
+  read = limits_in;
+  sample = record { limit = 0; near = 0; budget = 0 };
+  sound_sample = (omega arith, omega arith, omega arith);
+  again =
+      limits-again;
+  found = limits-found;
+}
 
 -- ---- the first line and the last
 

@@ -45,7 +45,8 @@ letter-back b good = by (b == 67) refl (b == 75) refl good
 letters-back : (bs : List ℕ) → list_all is_path_letter bs ≡ true → map letter (map is_changed bs) ≡ bs
 letters-back [] good = refl
 letters-back (b ∷ bs) good =
-    let (here, rest) = both_true (is_path_letter b) (list_all is_path_letter bs) good in ap (λ (k : ℕ). k ∷ map letter (map is_changed bs)) (letter-back b here) ∙ ap (λ (ks : List ℕ). b ∷ ks) (letters-back bs rest)
+    let (here, rest) = both_true (is_path_letter b) (list_all is_path_letter bs) good in ap (λ (k : ℕ). k ∷ map letter (map is_changed bs)) (letter-back b here)
+    ∙ ap (λ (ks : List ℕ). b ∷ ks) (letters-back bs rest)
 
 pub path-again : (path : List Bool) → IsPath path → path_said (path_text path) ≡ Some path
 path-again [] good = refl
@@ -60,7 +61,9 @@ path-found (b ∷ bs) path e = by (bytes_eq (b ∷ bs) (codes "-")) refl e
     lettered false good h = absurd (cc (h))
     lettered true good h = let own : map is_changed (b ∷ bs) ≡ path = cc (h) in sym (letters-back (b ∷ bs) good) ∙ ap path_text own
 
-    by : (c : Bool) → bytes_eq (b ∷ bs) (codes "-") ≡ c → (if c then Some [] else if list_all is_path_letter (b ∷ bs) then Some (map is_changed (b ∷ bs)) else None) ≡ Some path → IsPath path × (b ∷ bs ≡ path_text path)
+    by : (c : Bool) → bytes_eq (b ∷ bs) (codes "-") ≡ c
+        → (if c then Some [] else if list_all is_path_letter (b ∷ bs) then Some (map is_changed (b ∷ bs)) else None) ≡ Some path → IsPath path
+        × (b ∷ bs ≡ path_text path)
     by true is h = let own : [] ≡ path = cc (h) in (tt, (bytes_eq-Decides (b ∷ bs) (codes "-")).0 is ∙ ap path_text own)
     by false is h = (tt, lettered (list_all is_path_letter (b ∷ bs)) refl h)
 
@@ -69,16 +72,19 @@ path_form = record { read = path_said; sample = []; sound_sample = tt; again = p
 
 -- ---- a path alone, and a path and a number
 
-pub path-alone : {X : Type 0} (to : List Bool → X) (ws : Line) (x : X) → path_in to ws ≡ Some x → (path : List Bool) × (to path ≡ x) × (ws ≡ path_text path ∷ [])
+pub path-alone : {X : Type 0} (to : List Bool → X) (ws : Line) (x : X) → path_in to ws ≡ Some x → (path : List Bool) × (to path ≡ x)
+    × (ws ≡ path_text path ∷ [])
 path-alone to ws x e =
     let (path, w1, fits, e1, h1) = next-found IsPath path_text path_form ws _ x e in
     let (own, none) = end-found (to path) x w1 h1 in (path, own, e1 ∙ ap (λ (v : Line). path_text path ∷ v) none)
 
-pub path-and-number : {X : Type 0} (to : List Bool → ℕ → X) (ws : Line) (x : X) → path_and_number_in to ws ≡ Some x → (path : List Bool) × (n : ℕ) × IsLong n × (to path n ≡ x) × (ws ≡ path_text path ∷ decimal n ∷ [])
+pub path-and-number : {X : Type 0} (to : List Bool → ℕ → X) (ws : Line) (x : X) → path_and_number_in to ws ≡ Some x → (path : List Bool) × (n : ℕ) × IsLong n
+    × (to path n ≡ x) × (ws ≡ path_text path ∷ decimal n ∷ [])
 path-and-number to ws x e =
     let (path, w1, fits, e1, h1) = next-found IsPath path_text path_form ws _ x e in
     let (n, w2, n_fits, e2, h2) = next-found IsLong decimal long_form w1 _ x h1 in
-    let (own, none) = end-found (to path n) x w2 h2 in (path, n, n_fits, own, e1 ∙ ap (λ (v : Line). path_text path ∷ v) (e2 ∙ ap (λ (v : Line). decimal n ∷ v) none))
+    let (own, none) = end-found (to path n) x w2 h2 in
+    (path, n, n_fits, own, e1 ∙ ap (λ (v : Line). path_text path ∷ v) (e2 ∙ ap (λ (v : Line). decimal n ∷ v) none))
 
 -- ---- heads
 
@@ -86,16 +92,20 @@ abbrev Found : LeafHead → List ℕ → Line → Type 0
 Found head word ws = IsLeafHead head × (word ∷ ws ≡ leaf_head head)
 
 bound-found : (ws : Line) (head : LeafHead) → bound_in ws ≡ Some head → Found head (codes "bound") ws
-bound-found ws head e = let (path, own, words) = path-alone (λ p. BoundAt p) ws head e in (subst IsLeafHead own (omega arith), ap (λ (v : Line). codes "bound" ∷ v) words ∙ ap leaf_head own)
+bound-found ws head e = let (path, own, words) = path-alone (λ p. BoundAt p) ws head e in
+    (subst IsLeafHead own (omega arith), ap (λ (v : Line). codes "bound" ∷ v) words ∙ ap leaf_head own)
 
 bad-found : (ws : Line) (head : LeafHead) → bad_in ws ≡ Some head → Found head (codes "bad") ws
-bad-found ws head e = let (path, own, words) = path-alone (λ p. BadAt p) ws head e in (subst IsLeafHead own (omega arith), ap (λ (v : Line). codes "bad" ∷ v) words ∙ ap leaf_head own)
+bad-found ws head e = let (path, own, words) = path-alone (λ p. BadAt p) ws head e in
+    (subst IsLeafHead own (omega arith), ap (λ (v : Line). codes "bad" ∷ v) words ∙ ap leaf_head own)
 
 line-found : (ws : Line) (head : LeafHead) → line_in ws ≡ Some head → Found head (codes "line") ws
-line-found ws head e = let (path, n, fits, own, words) = path-and-number (λ p m. LineAt p m) ws head e in (subst IsLeafHead own fits, ap (λ (v : Line). codes "line" ∷ v) words ∙ ap leaf_head own)
+line-found ws head e = let (path, n, fits, own, words) = path-and-number (λ p m. LineAt p m) ws head e in
+    (subst IsLeafHead own fits, ap (λ (v : Line). codes "line" ∷ v) words ∙ ap leaf_head own)
 
 box-found : (ws : Line) (head : LeafHead) → box_in ws ≡ Some head → Found head (codes "box") ws
-box-found ws head e = let (path, n, fits, own, words) = path-and-number (λ p m. BoxAt p m) ws head e in (subst IsLeafHead own fits, ap (λ (v : Line). codes "box" ∷ v) words ∙ ap leaf_head own)
+box-found ws head e = let (path, n, fits, own, words) = path-and-number (λ p m. BoxAt p m) ws head e in
+    (subst IsLeafHead own fits, ap (λ (v : Line). codes "box" ∷ v) words ∙ ap leaf_head own)
 
 pub head-found : (l : Line) (head : LeafHead) → leaf_in l ≡ Some head → IsLeafHead head × (l ≡ leaf_head head)
 head-found [] head e = absurd (cc (e))

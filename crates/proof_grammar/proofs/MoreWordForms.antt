@@ -1,4 +1,5 @@
-use Rattle.std.proofs.Common.{◌≡◌, ℕ, zero, suc, ◌-◌, ◌^◌, nat_lt, Bool, true, false, if◌then◌else◌, List, ◌∷◌, ◌++◌, Option, Some, None, IfSome, codes, refl, sym, ap, ◌∙◌, subst, arith}
+use Rattle.std.proofs.Common.{◌≡◌, ℕ, zero, suc, ◌-◌, ◌^◌, nat_lt, Bool, true, false, if◌then◌else◌, List, ◌∷◌, ◌++◌, Option, Some, None, IfSome, codes, refl}
+use Rattle.std.proofs.Common.{sym, ap, ◌∙◌, subst, arith}
 use Rattle.std.specs.Fmt.{decimal}
 use Rattle.std.specs.Str.{bytes_eq}
 use Rattle.std.proofs.lemmas.Bool.Decides.{Decides-ltb}
@@ -61,7 +62,8 @@ zero-word : codes "0" ≡ decimal 0
 zero-word = sym (decimal_digit 0 (omega arith))
 
 pub option-again : (o : Option ℕ) → IsOption o → named_short_or_0 (named_or_0 o) ≡ Some o
-option-again None fits = ap (λ (w : List ℕ). named_or_none (2 ^ 32) (decimal_said w)) zero-word ∙ ap (named_or_none (2 ^ 32)) (decimal_said-again 0 (omega arith))
+option-again None fits = ap (λ (w : List ℕ). named_or_none (2 ^ 32) (decimal_said w)) zero-word
+    ∙ ap (named_or_none (2 ^ 32)) (decimal_said-again 0 (omega arith))
 option-again (Some n) fits = rw (name-is n, decimal_said-again (suc n) (omega (arith, fits)), (Decides-ltb n (2 ^ 32)).1 fits) refl
 
 pub option-found : (w : List ℕ) (o : Option ℕ) → named_short_or_0 w ≡ Some o → IsOption o × (w ≡ named_or_0 o)
@@ -74,7 +76,11 @@ option-found w o e = by (decimal_said w) refl e
       where
         at : (b : Bool) → nat_lt n (2 ^ 32) ≡ b → (if b then Some (Some n) else None) ≡ Some o → IsOption o × (w ≡ named_or_0 o)
         at false low h_ = absurd (cc (h_))
-        at true low h_ = let own : Some n ≡ o = cc (h_) in (subst IsOption own ((Decides-ltb n (2 ^ 32)).0 low), (decimal_said-found w (suc n) is).1 ∙ sym (name-is n) ∙ ap named_or_0 own)
+        at true low h_ = let own : Some n ≡ o = cc (h_) in (
+          subst IsOption own ((Decides-ltb n (2 ^ 32)).0 low),
+          (decimal_said-found w (suc n) is).1
+              ∙ sym (name-is n) ∙ ap named_or_0 own,
+        )
 
 abbrev pub option_form : LineForm {L = List ℕ} IsOption named_or_0
 option_form = record { read = named_short_or_0; sample = None; sound_sample = tt; again = option-again; found = option-found }
@@ -100,7 +106,8 @@ place_form = record { read = place_said; sample = Constant; sound_sample = tt; a
 -- ---- a number that left the range while values were given
 
 gift-again : (g : GiftFault) (rest : Line) → IsGift g → gift_fault_in (gift_words g ++ rest) ≡ Some (g, rest)
-gift-again (gift.Bound field line) rest fits = next-again IsOption named_or_0 option_form (Some field) _ _ fits.0 ∙ next-again IsLong named named_long_form line rest _ fits.1
+gift-again (gift.Bound field line) rest fits = next-again IsOption named_or_0 option_form (Some field) _ _ fits.0
+    ∙ next-again IsLong named named_long_form line rest _ fits.1
 gift-again (gift.Test rule) rest fits = next-again IsOption named_or_0 option_form None _ _ tt ∙ next-again IsShort named named_short_form rule rest _ fits
 
 gift-found : (ws : Line) (g : GiftFault) (rest : Line) → gift_fault_in ws ≡ Some (g, rest) → IsGift g × (ws ≡ gift_words g ++ rest)
@@ -111,22 +118,31 @@ gift-found ws g rest e = let (o, w1, fits, e1, h1) = next-found IsOption named_o
         let (rule, w2, r_fits, e2, h2) = next-found IsShort named named_short_form w1 _ (g, rest) h1 in
         let both : (gift.Test rule, w2) ≡ (g, rest) = cc (h2) in
         let own : gift.Test rule ≡ g = ap (λ (p : GiftFault × Line). p.0) both in
-        let end : w2 ≡ rest = ap (λ (p : GiftFault × Line). p.1) both in
-        (subst IsGift own r_fits, e1 ∙ ap (λ (v : Line). codes "0" ∷ v) (e2 ∙ ap (λ (v : Line). named rule ∷ v) end) ∙ ap (λ (x : GiftFault). gift_words x ++ rest) own)
+        let end : w2 ≡ rest = ap (λ (p : GiftFault × Line). p.1) both in (
+          subst IsGift own r_fits,
+          e1 ∙ ap (λ (v : Line). codes "0" ∷ v) (e2 ∙ ap (λ (v : Line). named rule ∷ v) end)
+              ∙ ap (λ (x : GiftFault). gift_words x ++ rest) own,
+        )
     by (Some field) w1 fits e1 h1 =
         let (line, w2, l_fits, e2, h2) = next-found IsLong named named_long_form w1 _ (g, rest) h1 in
         let both : (gift.Bound field line, w2) ≡ (g, rest) = cc (h2) in
         let own : gift.Bound field line ≡ g = ap (λ (p : GiftFault × Line). p.0) both in
-        let end : w2 ≡ rest = ap (λ (p : GiftFault × Line). p.1) both in
-        (subst IsGift own (fits, l_fits), e1 ∙ ap (λ (v : Line). named field ∷ v) (e2 ∙ ap (λ (v : Line). named line ∷ v) end) ∙ ap (λ (x : GiftFault). gift_words x ++ rest) own)
+        let end : w2 ≡ rest = ap (λ (p : GiftFault × Line). p.1) both in (
+          subst IsGift own (fits, l_fits),
+          e1 ∙ ap (λ (v : Line). named field ∷ v) (e2 ∙ ap (λ (v : Line). named line ∷ v) end)
+              ∙ ap (λ (x : GiftFault). gift_words x ++ rest) own,
+        )
 
 -- what is read behind it
-pub gift-next : {Y : Type 0} (ws : Line) (next : GiftFault → Line → Option Y) (y : Y) → then_in (gift_fault_in ws) next ≡ Some y → (g : GiftFault) × (rest : Line) × IsGift g × (ws ≡ gift_words g ++ rest) × (next g rest ≡ Some y)
+pub gift-next : {Y : Type 0} (ws : Line) (next : GiftFault → Line → Option Y) (y : Y) → then_in (gift_fault_in ws) next ≡ Some y → (g : GiftFault)
+    × (rest : Line) × IsGift g × (ws ≡ gift_words g ++ rest) × (next g rest ≡ Some y)
 gift-next {Y} ws next y e = by (gift_fault_in ws) refl e
   where
-    by : (r : Option (GiftFault × Line)) → gift_fault_in ws ≡ r → then_in r next ≡ Some y → (g : GiftFault) × (rest : Line) × IsGift g × (ws ≡ gift_words g ++ rest) × (next g rest ≡ Some y)
+    by : (r : Option (GiftFault × Line)) → gift_fault_in ws ≡ r → then_in r next ≡ Some y → (g : GiftFault) × (rest : Line) × IsGift g
+        × (ws ≡ gift_words g ++ rest) × (next g rest ≡ Some y)
     by None is h = absurd (cc (h))
     by (Some (g, rest)) is h = let (fits, same) = gift-found ws g rest is in (g, rest, fits, same, h)
 
-pub gift-then : {Y : Type 0} (g : GiftFault) (rest : Line) (next : GiftFault → Line → Option Y) → IsGift g → then_in (gift_fault_in (gift_words g ++ rest)) next ≡ next g rest
+pub gift-then : {Y : Type 0} (g : GiftFault) (rest : Line) (next : GiftFault → Line → Option Y) → IsGift g → then_in (gift_fault_in (gift_words g ++ rest)) next
+    ≡ next g rest
 gift-then g rest next fits = ap (λ (r : Option (GiftFault × Line)). then_in r next) (gift-again g rest fits)

@@ -1,4 +1,5 @@
-use Rattle.std.proofs.Common.{◌≡◌, ◌≢◌, ℕ, zero, suc, List, [], ◌∷◌, ◌++◌, Option, Some, None, Result, Ok, Err, refl, sym, ap, ◌∙◌, subst, append_assoc, append-nil}
+use Rattle.std.proofs.Common.{◌≡◌, ◌≢◌, ℕ, zero, suc, List, [], ◌∷◌, ◌++◌, Option, Some, None, Result, Ok, Err, refl, sym, ap, ◌∙◌, subst, append_assoc}
+use Rattle.std.proofs.Common.{append-nil}
 use Rattle.std.specs.List.{flat_map}
 use Rattle.proof_grammar.specs.inner.Readings.{Reading, line_read, read_line, read_many, seen, then_read}
 
@@ -155,7 +156,17 @@ line {L} {X} Good print F = record {
 
     stops : (ls left : List L) → read_line F.read ls ≡ Err left → Stops Good (λ x. print x ∷ []) (read_line F.read) ls left
     stops [] left e =
-        record { front = []; split = ap (λ (r : Reading L X). behind r) e; begun = F.sample; good = F.sound_sample; next = print F.sample; more = []; begins = refl; stuck = subst (λ (ks : List L). Stuck (read_line F.read) [] ks) (ap (λ (r : Reading L X). behind r) e) tt }
+        record {
+          front = [];
+          split = ap (λ (r : Reading L X). behind r) e;
+          begun = F.sample;
+          good = F.sound_sample;
+          next = print F.sample;
+          more = [];
+          begins =
+              refl;
+          stuck = subst (λ (ks : List L). Stuck (read_line F.read) [] ks) (ap (λ (r : Reading L X). behind r) e) tt;
+        }
     stops (l ∷ ls) left e = by (F.read l) refl e
       where
         by : (o : Option X) → F.read l ≡ o → line_read l ls o ≡ Err left → Stops Good (λ x. print x ∷ []) (read_line F.read) (l ∷ ls) left
@@ -176,7 +187,8 @@ line {L} {X} Good print F = record {
 -- ---- one after another
 
 -- a value, and then one that depends on it
-module _ {L X Y : Type 0} (Good : X → Type 0) (print : X → List L) (Next : X → Y → Type 0) (print_next : X → Y → List L) (A : Production Good print) (B : (x : X) → Production (Next x) (print_next x)) where
+module _ {L X Y : Type 0} (Good : X → Type 0) (print : X → List L) (Next : X → Y → Type 0) (print_next : X → Y → List L) (A : Production Good print)
+    (B : (x : X) → Production (Next x) (print_next x)) where
   abbrev Both : X × Y → Type 0
   Both pair = Good pair.0 × Next pair.0 pair.1
 
@@ -193,13 +205,15 @@ module _ {L X Y : Type 0} (Good : X → Type 0) (print : X → List L) (Next : X
   stuck-right : (x : X) (front left : List L) → Good x → Stuck (B x).read front left → Stuck read_both (print x ++ front) left
   stuck-right x front [] good stuck = tt
   stuck-right x front (l ∷ later) good stuck = λ other.
-      ap read_both (append_assoc (print x) front (l ∷ other)) ∙ ap (λ (r : Reading L X). then_read r (λ z rest. paired z ((B z).read rest))) (A.again x (front ++ l ∷ other) good)
+      ap read_both (append_assoc (print x) front (l ∷ other)) ∙ ap (λ (r : Reading L X). then_read r (λ z rest. paired z ((B z).read rest)))
+      (A.again x (front ++ l ∷ other) good)
       ∙ ap (λ (r : Reading L Y). paired x r) (stuck other)
 
   pub both-found : (ls : List L) (pair : X × Y) (rest : List L) → read_both ls ≡ Ok (pair, rest) → Both pair × (ls ≡ print_both pair ++ rest)
   both-found ls pair rest e = first (A.read ls) refl e
     where
-      second : (x : X) (middle : List L) → A.read ls ≡ Ok (x, middle) → (r : Reading L Y) → (B x).read middle ≡ r → paired x r ≡ Ok (pair, rest) → Both pair × (ls ≡ print_both pair ++ rest)
+      second : (x : X) (middle : List L) → A.read ls ≡ Ok (x, middle) → (r : Reading L Y) → (B x).read middle ≡ r → paired x r ≡ Ok (pair, rest) → Both pair
+          × (ls ≡ print_both pair ++ rest)
       second x middle was (Err left) is h = absurd (cc)
       second x middle was (Ok (y, last)) is h =
           let own : (x, y) ≡ pair = ap (λ (r : Reading L (X × Y)). value_or (x, y) r) h in
@@ -207,17 +221,20 @@ module _ {L X Y : Type 0} (Good : X → Type 0) (print : X → List L) (Next : X
           let (good, same) = A.found ls x middle was in
           let (fine, later) = (B x).found middle y last is in (
             subst (λ (p : X × Y). Both p) own (good, fine),
-            same ∙ ap (λ (ks : List L). print x ++ ks) later ∙ sym (append_assoc (print x) (print_next x y) last) ∙ ap (λ (p : X × Y). print_both p ++ last) own ∙ ap (λ (ks : List L). print_both pair ++ ks) end,
+            same ∙ ap (λ (ks : List L). print x ++ ks) later ∙ sym (append_assoc (print x) (print_next x y) last) ∙ ap (λ (p : X × Y). print_both p ++ last) own
+                ∙ ap (λ (ks : List L). print_both pair ++ ks) end,
           )
 
-      first : (r : Reading L X) → A.read ls ≡ r → then_read r (λ x middle. paired x ((B x).read middle)) ≡ Ok (pair, rest) → Both pair × (ls ≡ print_both pair ++ rest)
+      first : (r : Reading L X) → A.read ls ≡ r → then_read r (λ x middle. paired x ((B x).read middle)) ≡ Ok (pair, rest) → Both pair
+          × (ls ≡ print_both pair ++ rest)
       first (Err left) is h = absurd (cc)
       first (Ok (x, middle)) is h = second x middle is ((B x).read middle) refl h
 
   pub both-stops : (ls left : List L) → read_both ls ≡ Err left → Stops Both print_both read_both ls left
   both-stops ls left e = first (A.read ls) refl e
     where
-      second : (x : X) (middle : List L) → A.read ls ≡ Ok (x, middle) → (r : Reading L Y) → (B x).read middle ≡ r → paired x r ≡ Err left → Stops Both print_both read_both ls left
+      second : (x : X) (middle : List L) → A.read ls ≡ Ok (x, middle) → (r : Reading L Y) → (B x).read middle ≡ r → paired x r ≡ Err left
+          → Stops Both print_both read_both ls left
       second x middle was (Ok (y, last)) is h = absurd (cc)
       second x middle was (Err stopped) is h =
           let same : stopped ≡ left = ap (λ (r : Reading L (X × Y)). behind r) h in
@@ -257,7 +274,8 @@ module _ {L X Y : Type 0} (Good : X → Type 0) (print : X → List L) (Next : X
     sample = (A.sample, (B A.sample).sample);
     sound_sample = (A.sound_sample, (B A.sample).sound_sample);
     again = λ pair rest good.
-        ap read_both (append_assoc (print pair.0) (print_next pair.0 pair.1) rest) ∙ ap (λ (r : Reading L X). then_read r (λ z last. paired z ((B z).read last))) (A.again pair.0 (print_next pair.0 pair.1 ++ rest) good.0)
+        ap read_both (append_assoc (print pair.0) (print_next pair.0 pair.1) rest)
+        ∙ ap (λ (r : Reading L X). then_read r (λ z last. paired z ((B z).read last))) (A.again pair.0 (print_next pair.0 pair.1 ++ rest) good.0)
         ∙ ap (λ (r : Reading L Y). paired pair.0 r) ((B pair.0).again pair.1 rest good.1);
     found = both-found;
     stops = both-stops;
@@ -272,7 +290,8 @@ pub record View {L X Y : Type 0} (Good : X → Type 0) (print : X → List L) (F
   pub there : (x : X) → Good x → Fine (to x) × (from (to x) ≡ x)
   pub back : (y : Y) → Fine y → Good (from y) × (to (from y) ≡ y) × (print_as y ≡ print (from y))
 
-module _ {L X Y : Type 0} (Good : X → Type 0) (print : X → List L) (Fine : Y → Type 0) (print_as : Y → List L) (V : View Good print Fine print_as) (A : Production Good print) where
+module _ {L X Y : Type 0} (Good : X → Type 0) (print : X → List L) (Fine : Y → Type 0) (print_as : Y → List L) (V : View Good print Fine print_as)
+    (A : Production Good print) where
   abbrev read_seen : List L → Reading L Y
   read_seen ls = seen V.to (A.read ls)
 
@@ -327,7 +346,8 @@ module _ {L X Y : Type 0} (Good : X → Type 0) (print : X → List L) (Fine : Y
     sound_sample = (V.there A.sample A.sound_sample).0;
     again = λ y rest fine.
         let (good, same, text) = V.back y fine in
-        ap (λ (ks : List L). read_seen (ks ++ rest)) text ∙ ap (λ (r : Reading L X). seen V.to r) (A.again (V.from y) rest good) ∙ ap (λ (z : Y). Ok (z, rest)) same;
+        ap (λ (ks : List L). read_seen (ks ++ rest)) text ∙ ap (λ (r : Reading L X). seen V.to r) (A.again (V.from y) rest good)
+        ∙ ap (λ (z : Y). Ok (z, rest)) same;
     found = seen-found;
     stops = seen-stops;
   }
@@ -370,10 +390,12 @@ module _ {L X : Type 0} (Good : X → Type 0) (print : X → List L) (A : Produc
           let end : ls ≡ rest = ap (λ (r : Reading L (List X)). behind r) e in
           (subst (λ (ys : List X). AreMany Good 0 ys) own tt, end ∙ ap (λ (ys : List X). flat_map print ys ++ rest) own)
 
-  unfoldable pub one_more : (n : ℕ) → View (λ (pair : X × List X). Good pair.0 × AreMany Good n pair.1) (λ pair. print pair.0 ++ flat_map print pair.1) (AreMany Good (suc n)) (flat_map print)
+  unfoldable pub one_more : (n : ℕ) → View (λ (pair : X × List X). Good pair.0 × AreMany Good n pair.1) (λ pair. print pair.0 ++ flat_map print pair.1)
+      (AreMany Good (suc n)) (flat_map print)
   one_more n = record { to = λ pair. pair.0 ∷ pair.1; from = parted A.sample; there = λ pair good. (good, refl); back = back }
     where
-      back : (xs : List X) → AreMany Good (suc n) xs → (Good (parted A.sample xs).0 × AreMany Good n (parted A.sample xs).1) × ((parted A.sample xs).0 ∷ (parted A.sample xs).1 ≡ xs) × (flat_map print xs ≡ print (parted A.sample xs).0 ++ flat_map print (parted A.sample xs).1)
+      back : (xs : List X) → AreMany Good (suc n) xs → (Good (parted A.sample xs).0 × AreMany Good n (parted A.sample xs).1)
+          × ((parted A.sample xs).0 ∷ (parted A.sample xs).1 ≡ xs) × (flat_map print xs ≡ print (parted A.sample xs).0 ++ flat_map print (parted A.sample xs).1)
       back [] are = absurd are
       back (x ∷ xs) are = (are, refl, refl)
 
@@ -392,6 +414,9 @@ module _ {L X : Type 0} (Good : X → Type 0) (print : X → List L) (A : Produc
   many-reads zero ls = refl
   many-reads (suc n) ls = by (A.read ls) (many-reads n)
     where
-      by : (r : Reading L X) → ((rest : List L) → (many n).read rest ≡ read_many A.read n rest) → seen (λ (pair : X × List X). pair.0 ∷ pair.1) (then_read r (λ x rest. paired x ((many n).read rest))) ≡ then_read r (λ x rest. seen (λ xs. x ∷ xs) (read_many A.read n rest))
+      by : (r : Reading L X) → ((rest : List L) → (many n).read rest ≡ read_many A.read n rest)
+          → seen (λ (pair : X × List X). pair.0 ∷ pair.1) (then_read r (λ x rest. paired x ((many n).read rest)))
+          ≡ then_read r (λ x rest. seen (λ xs. x ∷ xs) (read_many A.read n rest))
       by (Err left) later = refl
-      by (Ok (x, rest)) later = ap (λ (q : Reading L (List X)). seen (λ (pair : X × List X). pair.0 ∷ pair.1) (paired x q)) (later rest) ∙ shifted x (read_many A.read n rest)
+      by (Ok (x, rest)) later = ap (λ (q : Reading L (List X)). seen (λ (pair : X × List X). pair.0 ∷ pair.1) (paired x q)) (later rest)
+          ∙ shifted x (read_many A.read n rest)

@@ -14,7 +14,9 @@ use Rattle.bound_cert.specs.declared.outcome.RowProof.{RowProof}
 use Rattle.proof_grammar.specs.Limits.{AreFit, IsChange, IsLeaf, IsOutcome, IsPlain, IsRowProof, IsStep, IsTable, IsTableStep, OfSteps}
 use Rattle.proof_grammar.specs.ProofLines.{has_table}
 use Rattle.proof_grammar.specs.declared.proof.Proof.{Proof}
-use Rattle.proof_grammar.specs.Sizes.{AreCoherentSteps, AreSizedSteps, IsCoherent, IsCoherentChange, IsCoherentLeaf, IsCoherentOutcome, IsCoherentRow, IsCoherentStep, IsCoherentTable, IsCoherentTableStep, IsMultiplier, IsSized, IsSizedChange, IsSizedLeaf, IsSizedOutcome, IsSizedRow, IsSizedStep, IsSizedTable, IsSizedVerdict, IsWide}
+use Rattle.proof_grammar.specs.Sizes.{AreCoherentSteps, AreSizedSteps, IsCoherent, IsCoherentChange, IsCoherentLeaf, IsCoherentOutcome, IsCoherentRow}
+use Rattle.proof_grammar.specs.Sizes.{IsCoherentStep, IsCoherentTable, IsCoherentTableStep, IsMultiplier, IsSized, IsSizedChange, IsSizedLeaf, IsSizedOutcome}
+use Rattle.proof_grammar.specs.Sizes.{IsSizedRow, IsSizedStep, IsSizedTable, IsSizedVerdict, IsWide}
 
 -- A proof whose numbers are of their types is plain where its combinations and rows are coherent.
 
@@ -55,7 +57,8 @@ plain-leaf leaf sized positive = plain-reason leaf.why sized positive
 plain-leaves : (leaves : List Leaf) → AreFit IsSizedLeaf leaves → AllByRecursion IsCoherentLeaf leaves → AreFit IsLeaf leaves
 plain-leaves leaves (count, sized) positive = (count, all-both IsSizedLeaf IsCoherentLeaf IsLeaf plain-leaf leaves sized positive)
 
-plain-change : (path : List Bool) (weight : ℕ) (leaves : List Leaf) → IsSizedChange weight leaves → IsCoherentChange path weight leaves → IsChange path weight leaves
+plain-change : (path : List Bool) (weight : ℕ) (leaves : List Leaf) → IsSizedChange weight leaves → IsCoherentChange path weight leaves
+    → IsChange path weight leaves
 plain-change path zero leaves sized clean = clean
 plain-change path (suc w) leaves (long, sized) positive = (long, plain-leaves leaves sized positive)
 
@@ -93,7 +96,11 @@ plain-if p sized coherent = record {
   limit = sized.limit;
   near = sized.near;
   budget = sized.budget;
-  verdicts = (sized.verdicts.0, all-both IsSizedVerdict (λ v. IfSome v AreCoherentSteps) (λ v. IfSome v (AreFit IsStep)) plain-verdict p.verdicts sized.verdicts.1 coherent.verdicts);
+  verdicts = (
+    sized.verdicts.0,
+    all-both IsSizedVerdict (λ v. IfSome v AreCoherentSteps) (λ v. IfSome v (AreFit IsStep)) plain-verdict p.verdicts
+        sized.verdicts.1 coherent.verdicts,
+  );
   table = plain-table (has_table p.version) p.table sized.table coherent.table;
   rows = (sized.rows.0, all-both IsSizedRow IsCoherentRow IsRowProof plain-row p.rows sized.rows.1 coherent.rows);
   claims = sized.claims;

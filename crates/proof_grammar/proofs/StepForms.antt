@@ -1,4 +1,5 @@
-use Rattle.std.proofs.Common.{◌≡◌, ◌⊎◌, inl, inr, ℕ, zero, suc, ◌+◌, ◌-◌, ◌^◌, ◌<◌, ◌≤◌, nat_lt, Bool, true, false, if◌then◌else◌, List, [], ◌∷◌, Option, Some, None, codes, option_map, refl, sym, ap, ◌∙◌, subst, arith}
+use Rattle.std.proofs.Common.{◌≡◌, ◌⊎◌, inl, inr, ℕ, zero, suc, ◌+◌, ◌-◌, ◌^◌, ◌<◌, ◌≤◌, nat_lt, Bool, true, false, if◌then◌else◌, List, [], ◌∷◌, Option, Some}
+use Rattle.std.proofs.Common.{None, codes, option_map, refl, sym, ap, ◌∙◌, subst, arith}
 use Rattle.std.specs.Fmt.{signed_decimal}
 use Rattle.std.specs.List.{AllByRecursion}
 use Rattle.std.specs.Str.{bytes_eq}
@@ -10,17 +11,20 @@ use Rattle.derivation.specs.declared.step.Step.TheVariants as step
 use Rattle.bound_cert.specs.Paths.{named}
 use Rattle.proof_grammar.specs.Limits.{IsLong, IsShort, IsStep, IsTableStep}
 use Rattle.proof_grammar.specs.ProofLines.{Line, step_line_in, step_line}
-use Rattle.proof_grammar.specs.inner.StepReading.{combine_in, cover_in, ended_if, fail_in, few_given_in, fix_in, given_in, shared_in, shared_step_in, step_in, table_step_in}
+use Rattle.proof_grammar.specs.inner.StepReading.{combine_in, cover_in, ended_if, fail_in, few_given_in, fix_in, given_in, shared_in, shared_step_in, step_in}
+use Rattle.proof_grammar.specs.inner.StepReading.{table_step_in}
 use Rattle.proof_grammar.specs.Words.{named_long}
 use Rattle.proof_grammar.specs.inner.WordLists.{all_in}
 use Rattle.proof_grammar.proofs.Productions.{LineForm}
-use Rattle.proof_grammar.proofs.WordForms.{IsDivisor, all-again, all-found, divisor_form, end-found, named_long_form, named_short_form, next-again, next-found, whole_form}
+use Rattle.proof_grammar.proofs.WordForms.{IsDivisor, all-again, all-found, divisor_form, end-found, named_long_form, named_short_form, next-again, next-found}
+use Rattle.proof_grammar.proofs.WordForms.{whole_form}
 
 -- The form of a step's line.
 
 -- ---- a first word of several
 
-pub chosen : {Y : Type 0} (w word : List ℕ) (here other : Option Y) (y : Y) → (if bytes_eq w word then here else other) ≡ Some y → ((w ≡ word) × (here ≡ Some y)) ⊎ (other ≡ Some y)
+pub chosen : {Y : Type 0} (w word : List ℕ) (here other : Option Y) (y : Y) → (if bytes_eq w word then here else other) ≡ Some y
+    → ((w ≡ word) × (here ≡ Some y)) ⊎ (other ≡ Some y)
 chosen w word here other y e = by (bytes_eq w word) refl e
   where
     by : (b : Bool) → bytes_eq w word ≡ b → (if b then here else other) ≡ Some y → ((w ≡ word) × (here ≡ Some y)) ⊎ (other ≡ Some y)
@@ -36,7 +40,8 @@ first_of (kind ∷ kinds) w ws = if bytes_eq w kind.0 then kind.1 ws else first_
 abbrev pub IsFound : {Y : Type 0} → (Y → Type 0) → (Y → Line) → List ℕ × (Line → Option Y) → Type 0
 IsFound {Y} Good print kind = (ws : Line) (y : Y) → kind.1 ws ≡ Some y → Good y × (kind.0 ∷ ws ≡ print y)
 
-pub first-found : {Y : Type 0} (Good : Y → Type 0) (print : Y → Line) (kinds : List (List ℕ × (Line → Option Y))) → AllByRecursion (IsFound Good print) kinds → (w : List ℕ) (ws : Line) (y : Y) → first_of kinds w ws ≡ Some y
+pub first-found : {Y : Type 0} (Good : Y → Type 0) (print : Y → Line) (kinds : List (List ℕ × (Line → Option Y))) → AllByRecursion (IsFound Good print) kinds
+    → (w : List ℕ) (ws : Line) (y : Y) → first_of kinds w ws ≡ Some y
     → Good y × (w ∷ ws ≡ print y)
 first-found Good print [] all w ws y e = absurd (cc (e))
 first-found Good print (kind ∷ kinds) all w ws y e = elim (chosen w kind.0 (kind.1 ws) (first_of kinds w ws) y e) [
@@ -86,8 +91,11 @@ fix-found : (ws : Line) (s : Step) → fix_in ws ≡ Some s → Found s (codes "
 fix-found ws s e =
     let (f, w1, f_fits, e1, h1) = next-found IsShort named named_short_form ws _ s e in
     let (p, w2, p_fits, e2, h2) = next-found IsLong named named_long_form w1 _ s h1 in
-    let (own, none) = end-found (step.Fix f p) s w2 h2 in
-    (subst IsStep own (f_fits, p_fits), ap (λ (v : Line). codes "fix" ∷ v) (e1 ∙ ap (λ (v : Line). named f ∷ v) (e2 ∙ ap (λ (v : Line). named p ∷ v) none)) ∙ ap step_line own)
+    let (own, none) = end-found (step.Fix f p) s w2 h2 in (
+      subst IsStep own (f_fits, p_fits),
+      ap (λ (v : Line). codes "fix" ∷ v) (e1 ∙ ap (λ (v : Line). named f ∷ v) (e2 ∙ ap (λ (v : Line). named p ∷ v) none))
+          ∙ ap step_line own,
+    )
 
 combine-found : (ws : Line) (s : Step) → combine_in ws ≡ Some s → Found s (codes "combine") ws
 combine-found ws s e =
@@ -98,13 +106,16 @@ combine-found ws s e =
     let (g, w5, g_fits, e5, h5) = next-found IsDivisor signed_decimal divisor_form w4 _ s h4 in
     let (own, none) = end-found (step.Combine a m b n g) s w5 h5 in
     let words : ws ≡ named a ∷ signed_decimal m ∷ named b ∷ signed_decimal n ∷ signed_decimal g ∷ [] =
-    e1 ∙ ap (λ (v : Line). named a ∷ v) (e2 ∙ ap (λ (v : Line). signed_decimal m ∷ v) (e3 ∙ ap (λ (v : Line). named b ∷ v) (e4 ∙ ap (λ (v : Line). signed_decimal n ∷ v) (e5 ∙ ap (λ (v : Line). signed_decimal g ∷ v) none)))) in
+    e1 ∙ ap (λ (v : Line). named a ∷ v)
+    (e2 ∙ ap (λ (v : Line). signed_decimal m ∷ v)
+    (e3 ∙ ap (λ (v : Line). named b ∷ v) (e4 ∙ ap (λ (v : Line). signed_decimal n ∷ v) (e5 ∙ ap (λ (v : Line). signed_decimal g ∷ v) none)))) in
     (subst IsStep own (a_fits, m_fits, b_fits, n_fits, g_fits.0, g_fits.1), ap (λ (v : Line). codes "combine" ∷ v) words ∙ ap step_line own)
 
 cover-found : (ws : Line) (s : Step) → cover_in ws ≡ Some s → Found s (codes "cover") ws
 cover-found ws s e = let (f, w1, fits, e1, h1) = next-found IsShort named named_short_form ws _ s e in by f w1 fits e1 (all_in named_long w1) refl h1
   where
-    by : (f : ℕ) (w1 : Line) → IsShort f → ws ≡ named f ∷ w1 → (r : Option (List ℕ)) → all_in named_long w1 ≡ r → option_map (λ (parts : List ℕ). step.Cover f parts) r ≡ Some s → Found s (codes "cover") ws
+    by : (f : ℕ) (w1 : Line) → IsShort f → ws ≡ named f ∷ w1 → (r : Option (List ℕ)) → all_in named_long w1 ≡ r
+        → option_map (λ (parts : List ℕ). step.Cover f parts) r ≡ Some s → Found s (codes "cover") ws
     by f w1 fits e1 None is h = absurd (cc (h))
     by f w1 fits e1 (Some parts) is h =
         let own : step.Cover f parts ≡ s = cc (h) in
@@ -114,7 +125,8 @@ cover-found ws s e = let (f, w1, fits, e1, h1) = next-found IsShort named named_
 pub step-found : (l : Line) (s : Step) → step_in l ≡ Some s → IsStep s × (l ≡ step_line s)
 step-found [] s e = absurd (cc (e))
 step-found (w ∷ ws) s e =
-    first-found IsStep step_line ((codes "given", given_in) ∷ (codes "combine", combine_in) ∷ (codes "fail", fail_in) ∷ (codes "cover", cover_in) ∷ (codes "fix", fix_in) ∷ [])
+    first-found IsStep step_line ((codes "given", given_in) ∷ (codes "combine", combine_in) ∷ (codes "fail", fail_in) ∷ (codes "cover", cover_in)
+    ∷ (codes "fix", fix_in) ∷ [])
     (given-found, (combine-found, (fail-found, (cover-found, (fix-found, tt))))) w ws s e
 
 -- ---- read again
@@ -122,10 +134,12 @@ step-found (w ∷ ws) s e =
 pub step-again : (s : Step) → IsStep s → step_in (step_line s) ≡ Some s
 step-again (step.Given i) fits = next-again IsLong named named_long_form i [] _ fits
 step-again (step.Combine a m b n g) (a_fits, m_fits, b_fits, n_fits, g_fits, above) =
-    next-again IsLong named named_long_form a _ _ a_fits ∙ next-again InRange signed_decimal whole_form m _ _ m_fits ∙ next-again IsLong named named_long_form b _ _ b_fits ∙ next-again InRange signed_decimal whole_form n _ _ n_fits
+    next-again IsLong named named_long_form a _ _ a_fits ∙ next-again InRange signed_decimal whole_form m _ _ m_fits
+    ∙ next-again IsLong named named_long_form b _ _ b_fits ∙ next-again InRange signed_decimal whole_form n _ _ n_fits
     ∙ next-again IsDivisor signed_decimal divisor_form g [] _ (g_fits, above)
 step-again (step.Fail i) fits = next-again IsLong named named_long_form i [] _ fits
-step-again (step.Cover field parts) fits = next-again IsShort named named_short_form field _ _ fits.0 ∙ ap (option_map (λ (parts : List ℕ). step.Cover field parts)) (all-again IsLong named named_long_form parts fits.1)
+step-again (step.Cover field parts) fits = next-again IsShort named named_short_form field _ _ fits.0
+    ∙ ap (option_map (λ (parts : List ℕ). step.Cover field parts)) (all-again IsLong named named_long_form parts fits.1)
 step-again (step.Fix field part) fits = next-again IsShort named named_short_form field _ _ fits.0 ∙ next-again IsLong named named_long_form part [] _ fits.1
 
 abbrev pub step_form : LineForm IsStep step_line
@@ -151,7 +165,8 @@ table-combine-found ws s e = let (fits, same) = combine-found ws s e in (by s fi
 
 pub table-step-found : (l : Line) (s : Step) → table_step_in l ≡ Some s → IsTableStep s × (l ≡ step_line s)
 table-step-found [] s e = absurd (cc (e))
-table-step-found (w ∷ ws) s e = first-found IsTableStep step_line ((codes "given", given_in) ∷ (codes "combine", combine_in) ∷ []) (table-given-found, (table-combine-found, tt)) w ws s e
+table-step-found (w ∷ ws) s e = first-found IsTableStep step_line ((codes "given", given_in) ∷ (codes "combine", combine_in) ∷ [])
+    (table-given-found, (table-combine-found, tt)) w ws s e
 
 pub table-step-again : (s : Step) → IsTableStep s → table_step_in (step_line s) ≡ Some s
 table-step-again (step.Given i) fits = step-again (step.Given i) fits
@@ -175,7 +190,8 @@ same-line (step.Fix field part) = refl
 
 module _ (count : ℕ) where
   -- only given lines are named in another way
-  other-line : (word : List ℕ) (ws : Line) (s : Step) → bytes_eq word (codes "given") ≡ false → word ∷ ws ≡ step_line s → step_line s ≡ step_line_in (Some count) s
+  other-line : (word : List ℕ) (ws : Line) (s : Step) → bytes_eq word (codes "given") ≡ false → word ∷ ws ≡ step_line s → step_line s
+      ≡ step_line_in (Some count) s
   other-line word ws (step.Given i) differs same = let is : word ≡ codes "given" = cc in absurd (other-word word (codes "given") differs is)
   other-line word ws (step.Combine a m b n g) differs same = refl
   other-line word ws (step.Fail a) differs same = refl
@@ -189,7 +205,8 @@ module _ (count : ℕ) where
   few-found : (ws : Line) (s : Step) → few_given_in count ws ≡ Some s → IsStep s × (codes "given" ∷ ws ≡ step_line_in (Some count) s)
   few-found ws s e = let (i, w1, fits, e1, h1) = next-found IsLong named named_long_form ws _ s e in by i w1 fits e1 (nat_lt i count) refl h1
     where
-      by : (i : ℕ) (w1 : Line) → IsLong i → ws ≡ named i ∷ w1 → (b : Bool) → nat_lt i count ≡ b → ended_if b (step.Given i) w1 ≡ Some s → IsStep s × (codes "given" ∷ ws ≡ step_line_in (Some count) s)
+      by : (i : ℕ) (w1 : Line) → IsLong i → ws ≡ named i ∷ w1 → (b : Bool) → nat_lt i count ≡ b → ended_if b (step.Given i) w1 ≡ Some s → IsStep s
+          × (codes "given" ∷ ws ≡ step_line_in (Some count) s)
       by i w1 fits e1 false is h = absurd (cc (h))
       by i w1 fits e1 true is h =
           let (own, none) = end-found (step.Given i) s w1 h in (
@@ -201,7 +218,8 @@ module _ (count : ℕ) where
   shared-found : (ws : Line) (s : Step) → shared_in count ws ≡ Some s → IsStep s × (codes "shared" ∷ ws ≡ step_line_in (Some count) s)
   shared-found ws s e = let (k, w1, fits, e1, h1) = next-found IsLong named named_long_form ws _ s e in by k w1 fits e1 (nat_lt (count + k) (2 ^ 64)) refl h1
     where
-      by : (k : ℕ) (w1 : Line) → IsLong k → ws ≡ named k ∷ w1 → (b : Bool) → nat_lt (count + k) (2 ^ 64) ≡ b → ended_if b (step.Given (count + k)) w1 ≡ Some s → IsStep s × (codes "shared" ∷ ws ≡ step_line_in (Some count) s)
+      by : (k : ℕ) (w1 : Line) → IsLong k → ws ≡ named k ∷ w1 → (b : Bool) → nat_lt (count + k) (2 ^ 64) ≡ b → ended_if b (step.Given (count + k)) w1 ≡ Some s
+          → IsStep s × (codes "shared" ∷ ws ≡ step_line_in (Some count) s)
       by k w1 fits e1 false is h = absurd (cc (h))
       by k w1 fits e1 true is h =
           let (own, none) = end-found (step.Given (count + k)) s w1 h in
@@ -211,27 +229,42 @@ module _ (count : ℕ) where
             subst IsStep own long,
             ap (λ (v : Line). codes "shared" ∷ v) (e1 ∙ ap (λ (v : Line). named k ∷ v) none)
                 ∙ ap (λ (n : ℕ). codes "shared" ∷ named n ∷ []) (sym number)
-                ∙ ap (λ b. if b then codes "given" ∷ named (count + k) ∷ [] else codes "shared" ∷ named (count + k - count) ∷ []) (sym past) ∙ ap (step_line_in (Some count)) own,
+                ∙ ap (λ b. if b then codes "given" ∷ named (count + k) ∷ [] else codes "shared" ∷ named (count + k - count) ∷ []) (sym past)
+                ∙ ap (step_line_in (Some count)) own,
           )
 
   pub shared-step-found : (l : Line) (s : Step) → shared_step_in count l ≡ Some s → IsStep s × (l ≡ step_line_in (Some count) s)
   shared-step-found [] s e = absurd (cc (e))
   shared-step-found (w ∷ ws) s e =
       first-found IsStep (step_line_in (Some count))
-      ((codes "given", few_given_in count) ∷ (codes "shared", shared_in count) ∷ (codes "combine", combine_in) ∷ (codes "fail", fail_in) ∷ (codes "cover", cover_in) ∷ (codes "fix", fix_in) ∷ [])
-      (few-found, (shared-found, (others (codes "combine") refl combine_in combine-found, (others (codes "fail") refl fail_in fail-found, (others (codes "cover") refl cover_in cover-found, (others (codes "fix") refl fix_in fix-found, tt)))))) w ws s e
+      ((codes "given", few_given_in count) ∷ (codes "shared", shared_in count) ∷ (codes "combine", combine_in) ∷ (codes "fail", fail_in)
+      ∷ (codes "cover", cover_in) ∷ (codes "fix", fix_in) ∷ []) (
+        few-found,
+        (
+          shared-found,
+          (
+            others (codes "combine") refl combine_in combine-found,
+            (
+              others (codes "fail") refl fail_in fail-found,
+              (others (codes "cover") refl cover_in cover-found, (others (codes "fix") refl fix_in fix-found, tt)),
+            ),
+          ),
+        ),
+      ) w ws s e
 
   pub shared-step-again : (s : Step) → IsStep s → shared_step_in count (step_line_in (Some count) s) ≡ Some s
   shared-step-again (step.Given i) fits = by (nat_lt i count) refl
     where
-      by : (b : Bool) → nat_lt i count ≡ b → shared_step_in count (if b then codes "given" ∷ named i ∷ [] else codes "shared" ∷ named (i - count) ∷ []) ≡ Some (step.Given i)
+      by : (b : Bool) → nat_lt i count ≡ b → shared_step_in count (if b then codes "given" ∷ named i ∷ [] else codes "shared" ∷ named (i - count) ∷ [])
+          ≡ Some (step.Given i)
       by true is = next-again IsLong named named_long_form i [] _ fits ∙ ap (λ b. ended_if b (step.Given i) []) is
       by false is =
           let past : count ≤ i = at-least i count is in
           let long : IsLong (i - count) = omega (arith, fits) in
           let whole : count + (i - count) ≡ i = omega arith in
           let below : nat_lt (count + (i - count)) (2 ^ 64) ≡ true = (Decides-ltb (count + (i - count)) (2 ^ 64)).1 (omega (arith, fits)) in
-          next-again IsLong named named_long_form (i - count) [] _ long ∙ ap (λ b. ended_if b (step.Given (count + (i - count))) []) below ∙ ap (λ (n : ℕ). Some (step.Given n)) whole
+          next-again IsLong named named_long_form (i - count) [] _ long ∙ ap (λ b. ended_if b (step.Given (count + (i - count))) []) below
+          ∙ ap (λ (n : ℕ). Some (step.Given n)) whole
   shared-step-again (step.Combine a m b n g) fits = step-again (step.Combine a m b n g) fits
   shared-step-again (step.Fail a) fits = step-again (step.Fail a) fits
   shared-step-again (step.Cover field parts) fits = step-again (step.Cover field parts) fits
@@ -245,4 +278,11 @@ leaf_step_form None = record {
   again = λ s fits. ap step_in (same-line s) ∙ step-again s fits;
   found = λ l s e. let (fits, same) = step-found l s e in (fits, same ∙ sym (same-line s));
 }
-leaf_step_form (Some count) = record { read = shared_step_in count; sample = step.Given 0; sound_sample = omega arith; again = shared-step-again count; found = shared-step-found count }
+leaf_step_form (Some count) = record {
+  read = shared_step_in count;
+  sample = step.Given 0;
+  sound_sample = omega arith;
+  again = shared-step-again count;
+  found =
+      shared-step-found count;
+}

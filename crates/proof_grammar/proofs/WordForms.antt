@@ -1,4 +1,5 @@
-use Rattle.std.proofs.Common.{◌≡◌, ℕ, zero, suc, ◌<◌, ◌≤◌, ◌^◌, nat_lt, Bool, true, false, if◌then◌else◌, List, [], ◌∷◌, Option, Some, None, ℤ, pos, ◌≤ℤ◌, int_le, map, refl, sym, ap, ◌∙◌, subst, arith}
+use Rattle.std.proofs.Common.{◌≡◌, ℕ, zero, suc, ◌<◌, ◌≤◌, ◌^◌, nat_lt, Bool, true, false, if◌then◌else◌, List, [], ◌∷◌, Option, Some, None, ℤ, pos, ◌≤ℤ◌}
+use Rattle.std.proofs.Common.{int_le, map, refl, sym, ap, ◌∙◌, subst, arith}
 use Rattle.std.specs.Fmt.{decimal, signed_decimal}
 use Rattle.std.specs.List.{AllByRecursion}
 use Rattle.std.proofs.lemmas.Bool.Decides.{Decides-ltb}
@@ -81,7 +82,14 @@ abbrev pub IsDivisor : ℤ → Type 0
 IsDivisor z = InRange z × (pos 0 ≤ℤ z)
 
 abbrev pub divisor_form : LineForm {L = List ℕ} IsDivisor signed_decimal
-divisor_form = record { read = divisor_said; sample = pos 0; sound_sample = (omega arith, (positive-Decides (pos 0)).0 refl); again = again; found = λ w z e. found w (whole_said w) refl z e }
+divisor_form = record {
+  read = divisor_said;
+  sample = pos 0;
+  sound_sample = (omega arith, (positive-Decides (pos 0)).0 refl);
+  again = again;
+  found =
+      λ w z e. found w (whole_said w) refl z e;
+}
   where
     again : (z : ℤ) → IsDivisor z → divisor_said (signed_decimal z) ≡ Some z
     again z fits = rw (whole_said-again z fits.0, (positive-Decides z).1 fits.1) refl
@@ -101,11 +109,13 @@ divisor_form = record { read = divisor_said; sample = pos 0; sound_sample = (ome
 
 module _ {X Y : Type 0} (Good : X → Type 0) (print : X → List ℕ) (F : LineForm Good print) where
   -- what is read behind a first word
-  pub next-found : (ws : Line) (next : X → Line → Option Y) (y : Y) → then_in (word_in F.read ws) next ≡ Some y → (x : X) × (rest : Line) × Good x × (ws ≡ print x ∷ rest) × (next x rest ≡ Some y)
+  pub next-found : (ws : Line) (next : X → Line → Option Y) (y : Y) → then_in (word_in F.read ws) next ≡ Some y → (x : X) × (rest : Line) × Good x
+      × (ws ≡ print x ∷ rest) × (next x rest ≡ Some y)
   next-found [] next y e = absurd (cc (e))
   next-found (w ∷ ws) next y e = by (F.read w) refl e
     where
-      by : (r : Option X) → F.read w ≡ r → then_in (with_rest ws r) next ≡ Some y → (x : X) × (rest : Line) × Good x × (w ∷ ws ≡ print x ∷ rest) × (next x rest ≡ Some y)
+      by : (r : Option X) → F.read w ≡ r → then_in (with_rest ws r) next ≡ Some y → (x : X) × (rest : Line) × Good x × (w ∷ ws ≡ print x ∷ rest)
+          × (next x rest ≡ Some y)
       by None is h = absurd (cc (h))
       by (Some x) is h = let (good, same) = F.found w x is in (x, ws, good, ap (λ (v : List ℕ). v ∷ ws) same, h)
 

@@ -1,4 +1,5 @@
-use Rattle.std.proofs.Common.{◌≡◌, ◌≢◌, ℕ, suc, ◌+◌, ◌-◌, ◌<◌, ◌^◌, ◌==◌, ◌&&◌, not, nat_lt, Bool, true, false, if◌then◌else◌, List, [], ◌∷◌, Option, Some, None, ℤ, length, take, drop, refl, sym, ap, ◌∙◌, subst, arith}
+use Rattle.std.proofs.Common.{◌≡◌, ◌≢◌, ℕ, suc, ◌+◌, ◌-◌, ◌<◌, ◌^◌, ◌==◌, ◌&&◌, not, nat_lt, Bool, true, false, if◌then◌else◌, List, [], ◌∷◌, Option, Some}
+use Rattle.std.proofs.Common.{None, ℤ, length, take, drop, refl, sym, ap, ◌∙◌, subst, arith}
 use Rattle.std.specs.Fmt.{decimal, signed_decimal}
 use Rattle.std.specs.List.{onto_first, position, position_or_len, slice_split}
 use Rattle.std.specs.Str.{bytes_eq}
@@ -29,22 +30,27 @@ split-is : (mark : ℕ) (bytes : List ℕ) → split mark bytes ≡ slice_split 
 split-is mark [] = refl
 split-is mark (b ∷ bytes) = by (b == mark) (split-is mark bytes)
   where
-    by : (c : Bool) → split mark bytes ≡ slice_split (λ k. k == mark) bytes → (if c then [] ∷ split mark bytes else push b (split mark bytes)) ≡ (if c then [] ∷ slice_split (λ k. k == mark) bytes else onto_first b (slice_split (λ k. k == mark) bytes))
+    by : (c : Bool) → split mark bytes ≡ slice_split (λ k. k == mark) bytes → (if c then [] ∷ split mark bytes else push b (split mark bytes))
+        ≡ (if c then [] ∷ slice_split (λ k. k == mark) bytes else onto_first b (slice_split (λ k. k == mark) bytes))
     by true same = ap (λ ss. [] ∷ ss) same
     by false same = ap (push b) same ∙ pushed b (slice_split (λ k. k == mark) bytes)
 
 -- a text with the mark is cut at the first one
-pub split-cut : (mark : ℕ) (bytes : List ℕ) (i : ℕ) → position (λ b. b == mark) bytes ≡ Some i → (i < length bytes) × (split mark bytes ≡ take i bytes ∷ split mark (drop (i + 1) bytes))
+pub split-cut : (mark : ℕ) (bytes : List ℕ) (i : ℕ) → position (λ b. b == mark) bytes ≡ Some i → (i < length bytes)
+    × (split mark bytes ≡ take i bytes ∷ split mark (drop (i + 1) bytes))
 split-cut mark bytes i e = by (nat_lt (position_or_len (λ b. b == mark) bytes) (length bytes)) refl e
   where
-    by : (c : Bool) → nat_lt (position_or_len (λ b. b == mark) bytes) (length bytes) ≡ c → (if c then Some (position_or_len (λ b. b == mark) bytes) else None) ≡ Some i
+    by : (c : Bool) → nat_lt (position_or_len (λ b. b == mark) bytes) (length bytes) ≡ c → (if c then Some (position_or_len (λ b. b == mark) bytes) else None)
+        ≡ Some i
         → (i < length bytes) × (split mark bytes ≡ take i bytes ∷ split mark (drop (i + 1) bytes))
     by false is h = absurd (cc)
     by true is h =
         let place : position_or_len (λ b. b == mark) bytes ≡ i = cc in
         let inside = (Decides-ltb (position_or_len (λ b. b == mark) bytes) (length bytes)).0 is in (
           subst (λ (k : ℕ). k < length bytes) place inside,
-          split-is mark bytes ∙ slice_split_first (λ b. b == mark) bytes 0 inside ∙ ap (λ (k : ℕ). take k bytes ∷ slice_split (λ b. b == mark) (drop (k + 1) bytes)) place ∙ ap (λ ss. take i bytes ∷ ss) (sym (split-is mark (drop (i + 1) bytes))),
+          split-is mark bytes ∙ slice_split_first (λ b. b == mark) bytes 0 inside
+              ∙ ap (λ (k : ℕ). take k bytes ∷ slice_split (λ b. b == mark) (drop (k + 1) bytes)) place
+              ∙ ap (λ ss. take i bytes ∷ ss) (sym (split-is mark (drop (i + 1) bytes))),
         )
 
 less-off : (a b : ℕ) → nat_lt (1 + a) (suc b) ≡ false → nat_lt a b ≡ false
@@ -67,24 +73,33 @@ unmarked mark (b ∷ bs) far = at (b == mark) far (unmarked mark bs)
 pub split-whole : (mark : ℕ) (bytes : List ℕ) → position (λ b. b == mark) bytes ≡ None → split mark bytes ≡ bytes ∷ []
 split-whole mark bytes e = split-last mark bytes (unmarked mark bytes (by (nat_lt (position_or_len (λ b. b == mark) bytes) (length bytes)) refl e))
   where
-    by : (c : Bool) → nat_lt (position_or_len (λ b. b == mark) bytes) (length bytes) ≡ c → (if c then Some (position_or_len (λ b. b == mark) bytes) else None) ≡ None → nat_lt (position_or_len (λ b. b == mark) bytes) (length bytes) ≡ false
+    by : (c : Bool) → nat_lt (position_or_len (λ b. b == mark) bytes) (length bytes) ≡ c → (if c then Some (position_or_len (λ b. b == mark) bytes) else None)
+        ≡ None → nat_lt (position_or_len (λ b. b == mark) bytes) (length bytes) ≡ false
     by false is h = is
     by true is h = absurd (cc)
 
 -- ---- numbers
 
 pub decimal_said-again : (n : ℕ) → n < 2 ^ 128 → decimal_said (decimal n) ≡ Some n
-decimal_said-again n fits = rw ((decimal_is_IsNumeral_wide n (omega (arith, fits))).1, (bytes_eq-Decides (decimal n) (decimal n)).1 refl, (Decides-ltb n (2 ^ 128)).1 fits) refl
+decimal_said-again n fits = rw (
+  (decimal_is_IsNumeral_wide n (omega (arith, fits))).1,
+  (bytes_eq-Decides (decimal n) (decimal n)).1 refl,
+  (Decides-ltb n (2 ^ 128)).1 fits,
+) refl
 
 pub decimal_said-found : (w : List ℕ) (n : ℕ) → decimal_said w ≡ Some n → (n < 2 ^ 128) × (w ≡ decimal n)
 decimal_said-found w n e = by (bytes_eq w (decimal (digits_value 10 w)) && nat_lt (digits_value 10 w) (2 ^ 128)) refl e
   where
-    by : (b : Bool) → (bytes_eq w (decimal (digits_value 10 w)) && nat_lt (digits_value 10 w) (2 ^ 128)) ≡ b → (if b then Some (digits_value 10 w) else None) ≡ Some n → (n < 2 ^ 128) × (w ≡ decimal n)
+    by : (b : Bool) → (bytes_eq w (decimal (digits_value 10 w)) && nat_lt (digits_value 10 w) (2 ^ 128)) ≡ b → (if b then Some (digits_value 10 w) else None)
+        ≡ Some n → (n < 2 ^ 128) × (w ≡ decimal n)
     by false is h = absurd (cc)
     by true is h =
         let (same, fits) = both_true _ _ is in
-        let own : digits_value 10 w ≡ n = cc in
-        (subst (λ (k : ℕ). k < 2 ^ 128) own ((Decides-ltb (digits_value 10 w) (2 ^ 128)).0 fits), (bytes_eq-Decides w (decimal (digits_value 10 w))).0 same ∙ ap decimal own)
+        let own : digits_value 10 w ≡ n = cc in (
+          subst (λ (k : ℕ). k < 2 ^ 128) own ((Decides-ltb (digits_value 10 w) (2 ^ 128)).0 fits),
+          (bytes_eq-Decides w (decimal (digits_value 10 w))).0 same
+              ∙ ap decimal own,
+        )
 
 pub decimal_said-none : (w : List ℕ) → ((n : ℕ) → n < 2 ^ 128 → decimal n ≢ w) → None ≡ decimal_said w
 decimal_said-none w none_says = by (decimal_said w) refl
@@ -99,7 +114,8 @@ whole_said-again z fits = rw (signed-whole z fits, (bytes_eq-Decides (signed_dec
 pub whole_said-found : (w : List ℕ) (z : ℤ) → whole_said w ≡ Some z → InRange z × (w ≡ signed_decimal z)
 whole_said-found w z e = by (bytes_eq w (signed_decimal (whole_of w)) && in_range (whole_of w)) refl e
   where
-    by : (b : Bool) → (bytes_eq w (signed_decimal (whole_of w)) && in_range (whole_of w)) ≡ b → (if b then Some (whole_of w) else None) ≡ Some z → InRange z × (w ≡ signed_decimal z)
+    by : (b : Bool) → (bytes_eq w (signed_decimal (whole_of w)) && in_range (whole_of w)) ≡ b → (if b then Some (whole_of w) else None) ≡ Some z → InRange z
+        × (w ≡ signed_decimal z)
     by false is h = absurd (cc)
     by true is h =
         let (same, fits) = both_true _ _ is in
@@ -125,7 +141,8 @@ rest-is xs i = sym (ap (λ (n : ℕ). take n (drop i xs)) (sym (length-drop i xs
 
 -- a text whose first line is cut off
 pub line-cut : (text line rest : List ℕ) → split 10 text ≡ line ∷ split 10 rest → lines_in text ≡ split 32 line ∷ lines_in rest
-line-cut text line rest e = let (s, ss, parts) = some-part 10 rest in ap lines_of_parts (e ∙ ap (λ (ps : List (List ℕ)). line ∷ ps) parts) ∙ first line s ss ∙ ap (λ (ps : List (List ℕ)). split 32 line ∷ lines_of_parts ps) (sym parts)
+line-cut text line rest e = let (s, ss, parts) = some-part 10 rest in ap lines_of_parts (e ∙ ap (λ (ps : List (List ℕ)). line ∷ ps) parts) ∙ first line s ss
+    ∙ ap (λ (ps : List (List ℕ)). split 32 line ∷ lines_of_parts ps) (sym parts)
   where
     first : (l s : List ℕ) (ss : List (List ℕ)) → lines_of_parts (l ∷ s ∷ ss) ≡ split 32 l ∷ lines_of_parts (s ∷ ss)
     first [] s ss = refl

@@ -20,10 +20,11 @@ use Rattle.proof_grammar.specs.ProofLines.{has_table}
 use Rattle.proof_grammar.specs.declared.proof.Proof.{Proof}
 use Rattle.bound_cert.specs.declared.outcome.RowProof.{RowProof}
 
--- a number of 64 bits, and one of 32
+-- a number of 64 bits
 abbrev pub IsLong : ℕ → Type 0
 IsLong n = n < 2 ^ 64
 
+-- a number of 32 bits
 abbrev pub IsShort : ℕ → Type 0
 IsShort n = n < 2 ^ 32
 
@@ -57,17 +58,21 @@ OfSteps Fit why.BadKept = Unit {0}
 OfSteps Fit (why.Line steps) = Fit steps
 OfSteps Fit (why.Box steps) = Fit steps
 
+-- the numbers of a leaf's steps fit, and its steps are counted by 64 bits
 abbrev pub IsLeaf : Leaf → Type 0
 IsLeaf leaf = OfSteps (AreFit IsStep) leaf.why
 
+-- the field at which a number of a line stands is a number of 32 bits; the constant always fits
 abbrev pub IsPlace : Place → Type 0
 IsPlace Constant = Unit {0}
 IsPlace (Field f) = IsShort f
 
+-- the numbers fit that tell where a number left the range in a search
 abbrev pub IsEvent : Event → Type 0
 IsEvent (event.Step first second place) = IsLong first × IsLong second × IsPlace place
 IsEvent (event.Test line field) = IsLong line × IsShort field
 
+-- the numbers fit that tell where a number left the range while values were given
 abbrev pub IsGift : GiftFault → Type 0
 IsGift (gift.Bound field line) = IsShort field × IsLong line
 IsGift (gift.Test rule) = IsShort rule
@@ -90,9 +95,11 @@ IsOutcome (outcome.Overflow path event) None = IsEvent event
 IsOutcome (outcome.Contradictory cert) None = AreFit IsLeaf cert.leaves
 IsOutcome _ (Some fault) = ⊥
 
+-- what is said of a record fits, and its text says all of it
 abbrev pub IsRowProof : RowProof → Type 0
 IsRowProof row = IsOutcome row.outcome row.gift
 
+-- the numbers of a claim fit: its row, the donor that it was given, if any, and those that it ranks
 abbrev pub IsEntry : Entry → Type 0
 IsEntry entry = IsShort entry.row_no × IfSome entry.reply IsShort × AllByRecursion IsShort entry.ranking
 

@@ -13,9 +13,11 @@ pub record LinesLeft : Type 0 where
   pub left : List Line
   pub all : ℕ
 
+-- the lines of a text behind this number of lines that were taken
 abbrev pub left_of : List ℕ → ℕ → LinesLeft
 left_of text taken = record { left = lines_in text; all = taken + length (lines_in text) }
 
+-- the lines of a text of which none was taken
 abbrev pub begun : List ℕ → LinesLeft
 begun text = left_of text 0
 
@@ -23,6 +25,7 @@ begun text = left_of text 0
 abbrev pub IsNumberOf : ℕ → List Line → ℕ → Type 0
 IsNumberOf line left all = line + length left ≡ suc all
 
+-- no line is left that a line feed ends, and the fault is at the number of the next line
 abbrev pub EndsAt : LinesLeft → ProofFault → Type 0
 EndsAt lines (fault.At line) = ((lines.left ≡ []) ⊎ (lines.left ≡ [] ∷ [])) × IsNumberOf line lines.left lines.all
 EndsAt lines fault.OutOfMemory = ⊥

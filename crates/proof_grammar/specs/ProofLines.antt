@@ -60,6 +60,7 @@ step_line step = step_line_in None step
 abbrev pub with_steps : Option ℕ → Line → List Step → List Line
 with_steps shared words steps = (words ++ decimal (length steps) ∷ []) ∷ map (step_line_in shared) steps
 
+-- the lines of a leaf: the word of its reason and its path, and then those of its steps, where it has some
 abbrev pub leaf_lines_in : Option ℕ → Leaf → List Line
 leaf_lines_in shared leaf = reason_lines (path_text leaf.path) leaf.why
   where
@@ -75,6 +76,7 @@ with_leaves_in shared words leaves = (words ++ decimal (length leaves) ∷ []) �
 
 -- ---- verdicts, rows and claims
 
+-- the lines of a verdict on a line of the rules: `keep`, or `drop` and those of the steps
 abbrev pub verdict_lines : Option (List Step) → List Line
 verdict_lines None = (codes "keep" ∷ []) ∷ []
 verdict_lines (Some steps) = with_steps None (codes "drop" ∷ []) steps
@@ -89,11 +91,13 @@ abbrev pub change_lines_in : Option ℕ → List Bool → ℕ → List Leaf → 
 change_lines_in shared path zero leaves = (codes "clean" ∷ []) ∷ []
 change_lines_in shared path (suc w) leaves = with_leaves_in shared (codes "change" ∷ decimal (suc w) ∷ path_text path ∷ []) leaves
 
+-- the line of a search that ended since a number left the range
 abbrev pub event_line : List Bool → Event → Line
 event_line path (event.Step first second place) =
     codes "step" ∷ path_text path ∷ named first ∷ named second ∷ place_word place ∷ []
 event_line path (event.Test line field) = codes "test" ∷ path_text path ∷ named line ∷ named field ∷ []
 
+-- the lines of what is said of a record: its head, and then those of its leaves, where it has a tree
 abbrev pub row_lines_in : Option ℕ → RowProof → List Line
 row_lines_in shared row = outcome_lines row.outcome row.gift
   where
@@ -107,12 +111,15 @@ row_lines_in shared row = outcome_lines row.outcome row.gift
 
 -- the same of version 1; in both versions they are as many
 
+-- the lines of a leaf, of version 1
 abbrev pub leaf_lines : Leaf → List Line
 leaf_lines leaf = leaf_lines_in None leaf
 
+-- the lines of what is said of a record, of version 1
 abbrev pub row_lines : RowProof → List Line
 row_lines row = row_lines_in None row
 
+-- the line of a claim: its row, the donor that it was given or 0, and the donors that it ranks
 abbrev pub claim_line : Entry → Line
 claim_line entry = codes "claim" ∷ named entry.row_no ∷ named_or_0 entry.reply ∷ map named entry.ranking
 

@@ -29,12 +29,15 @@ IsSizedStep (step.Fail a) = IsLong a
 IsSizedStep (step.Cover field parts) = IsShort field × AllByRecursion IsLong parts
 IsSizedStep (step.Fix field part) = IsShort field × IsLong part
 
+-- the same of all steps of a list, which 64 bits count
 abbrev pub AreSizedSteps : List Step → Type 0
 AreSizedSteps steps = AreFit IsSizedStep steps
 
+-- the same of the steps of a leaf
 abbrev pub IsSizedLeaf : Leaf → Type 0
 IsSizedLeaf leaf = OfSteps AreSizedSteps leaf.why
 
+-- the same of all leaves of a list, which 64 bits count
 abbrev pub AreSizedLeaves : List Leaf → Type 0
 AreSizedLeaves leaves = AreFit IsSizedLeaf leaves
 
@@ -51,9 +54,11 @@ IsSizedOutcome (outcome.Budget path work) fault = IsLong work
 IsSizedOutcome (outcome.Overflow path event) fault = IsEvent event
 IsSizedOutcome (outcome.Contradictory cert) fault = AreSizedLeaves cert.leaves
 
+-- the numbers that the text says of a record are of their types, and its lists are counted by 64 bits
 abbrev pub IsSizedRow : RowProof → Type 0
 IsSizedRow row = IsSizedOutcome row.outcome row.gift
 
+-- the same of the steps of a verdict, where it has some
 abbrev pub IsSizedVerdict : Option (List Step) → Type 0
 IsSizedVerdict verdict = IfSome verdict AreSizedSteps
 
@@ -86,15 +91,19 @@ IsCoherentStep (step.Fail a) = Unit {0}
 IsCoherentStep (step.Cover field parts) = Unit {0}
 IsCoherentStep (step.Fix field part) = Unit {0}
 
+-- each combination among the steps does so
 abbrev pub AreCoherentSteps : List Step → Type 0
 AreCoherentSteps steps = AllByRecursion IsCoherentStep steps
 
+-- each combination among the steps of a leaf's reason does so
 abbrev pub IsCoherentReason : LeafWhy → Type 0
 IsCoherentReason reason = OfSteps AreCoherentSteps reason
 
+-- each combination among the steps of a leaf does so
 abbrev pub IsCoherentLeaf : Leaf → Type 0
 IsCoherentLeaf leaf = IsCoherentReason leaf.why
 
+-- each combination among the steps of these leaves does so
 abbrev pub AreCoherentLeaves : List Leaf → Type 0
 AreCoherentLeaves leaves = AllByRecursion IsCoherentLeaf leaves
 
@@ -112,6 +121,7 @@ IsCoherentOutcome (outcome.Overflow path event) None = Unit {0}
 IsCoherentOutcome (outcome.Contradictory cert) None = AreCoherentLeaves cert.leaves
 IsCoherentOutcome _ (Some fault) = ⊥
 
+-- the combinations of a record's tree are in order, and no more stands in the row than its lines say
 abbrev pub IsCoherentRow : RowProof → Type 0
 IsCoherentRow row = IsCoherentOutcome row.outcome row.gift
 

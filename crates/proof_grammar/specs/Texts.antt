@@ -1,3 +1,4 @@
+-- What is printed of a fault.
 use Rattle.std.specs.Prelude.{ℕ, List, ◌++◌, codes}
 use Rattle.std.specs.Fmt.{decimal}
 use Rattle.proof_grammar.specs.declared.fault.ProofFault.{ProofFault}

@@ -41,18 +41,23 @@ named_or_none limit None = None
 named_or_none limit (Some zero) = Some None
 named_or_none limit (Some (suc n)) = if nat_lt n limit then Some (Some n) else None
 
+-- a number of 64 bits
 abbrev pub long_said : List ℕ → Option ℕ
 long_said w = below (2 ^ 64) (decimal_said w)
 
+-- a number of 32 bits
 abbrev pub short_said : List ℕ → Option ℕ
 short_said w = below (2 ^ 32) (decimal_said w)
 
+-- the number, from 0, of what is named from 1 to 2^64
 abbrev pub named_long : List ℕ → Option ℕ
 named_long w = named_below (2 ^ 64) (decimal_said w)
 
+-- the number, from 0, of what is named from 1 to 2^32
 abbrev pub named_short : List ℕ → Option ℕ
 named_short w = named_below (2 ^ 32) (decimal_said w)
 
+-- the same, or the inner None for the word 0
 abbrev pub named_short_or_0 : List ℕ → Option (Option ℕ)
 named_short_or_0 w = named_or_none (2 ^ 32) (decimal_said w)
 
@@ -74,6 +79,7 @@ abbrev pub not_negative : Option ℤ → Option ℤ
 not_negative None = None
 not_negative (Some z) = if int_le (pos 0) z then Some z else None
 
+-- a number in range that is not negative
 abbrev pub divisor_said : List ℕ → Option ℤ
 divisor_said w = not_negative (whole_said w)
 
@@ -81,6 +87,7 @@ divisor_said w = not_negative (whole_said w)
 abbrev pub is_path_letter : ℕ → Bool
 is_path_letter b = b == 75 || b == 67
 
+-- C, which says that a field is changed
 abbrev pub is_changed : ℕ → Bool
 is_changed b = b == 67
 
@@ -97,10 +104,12 @@ abbrev pub place_of : Option ℕ → Place
 place_of None = Constant
 place_of (Some f) = Field f
 
+-- the same, where a word says one
 abbrev pub said_place : Option (Option ℕ) → Option Place
 said_place None = None
 said_place (Some f) = Some (place_of f)
 
+-- a field from 1 on, or 0 for the constant
 abbrev pub place_said : List ℕ → Option Place
 place_said w = said_place (named_short_or_0 w)
 
@@ -114,6 +123,7 @@ fixed_said word w = if bytes_eq w word then Some tt else None
 abbrev pub Front : Type 0 → Type 0
 Front X = Option (X × Line)
 
+-- what a word says, and the words behind it
 abbrev pub with_rest : {X : Type 0} → Line → Option X → Front X
 with_rest ws None = None
 with_rest ws (Some x) = Some (x, ws)

@@ -1,33 +1,36 @@
+//! What the first line of a leaf or of a record says, and the limits of a run. A reader has these of a
+//! part before it reads the lines behind.
 use bound_cert::{Event, GiftFault, Path};
 
 /// The first line of a leaf: its path, why nothing below it is looked at, and how many steps follow.
 #[derive(Debug, Drop)]
 pub enum LeafHead {
-    /// The path weighs enough.
+    /// `bound`: the path itself weighs at least the weight that is to be shown.
     BoundAt(Path),
-    /// The path keeps a field without a value.
+    /// `bad`: the path keeps a field without a value.
     BadAt(Path),
-    /// A line refutes it, which this number of steps proves.
+    /// `line`: this number of steps proves a line that fails at the fields that the path keeps.
     LineAt(Path, u64),
-    /// A box refutes it, which this number of steps proves.
+    /// `box`: this number of steps proves that all codes are forbidden.
     BoxAt(Path, u64),
 }
 
-/// The first line of a record, and how many leaves follow.
+/// The first line of a record, and how many leaves follow behind it.
 #[derive(Debug, Drop)]
 pub enum RowHead {
-    /// It is right as it stands.
+    /// `clean`: the record is right as it stands.
     CleanAt,
-    /// It is changed: one less than the weight, the path, and how many leaves.
+    /// `change`: one less than the weight, the path, and how many leaves. A weight of 0 can't be held,
+    /// since that is a clean record.
     ChangeAt(u64, Path, u64),
-    /// It would be changed, but a number left the range while values were given: the weight, the path, which
-    /// number, and how many leaves.
+    /// `gift`: the record would be changed, but a number left the range while values were given. The
+    /// weight, the path, which number, and how many leaves.
     GiftAt(u64, Path, GiftFault, u64),
-    /// The search ended before this path, after so much work.
+    /// `budget`: the search ended before this path, after this much work.
     BudgetAt(Path, u64),
-    /// A number left the range at this path.
+    /// `step` or `test`: a number left the range at this path.
     EventAt(Path, Event),
-    /// No change corrects it, as this number of leaves shows.
+    /// `contradictory`: no change corrects the record, as this number of leaves shows.
     ContradictoryAt(u64),
 }
 

@@ -1,7 +1,10 @@
+//! What is proved of plain proofs. Nothing is computed here.
 ghost use Rattle.proof_grammar.specs.Sizes.{PlainLaw};
 
-/// Which proofs are plain: those whose numbers and lists are of the sizes that a text has room for, whose combinations have factors
-/// above 0 or in range and divisors above 0, and whose rows hold no more than their lines say. Nothing is computed.
+/// A law; nothing is computed, and no code calls it. A proof is plain, so that its text says it whole,
+/// where two conditions hold. Each number and list of its text fits its type (`IsSized`). And its version
+/// is 1 or 2, its table and rows hold no more than their lines say, and its combinations have multipliers
+/// above 0 or in range, and divisors above 0 (`IsCoherent`).
 pub fn proof_laws()
     ensures plain { PlainLaw }
 {}

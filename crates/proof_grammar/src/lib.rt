@@ -1,8 +1,8 @@
-//! The grammar of proof files: what a proof holds ([`Proof`]), the lines that spell it (`specs/ProofLines.antt`),
-//! which proofs have a text (`specs/Limits.antt`, `specs/Sizes.antt`), and where bytes leave the grammar
-//! (`specs/FirstFaults.antt`). Each text is that of one proof, and bytes that are none have one first line
-//! that can't go on ([`one_reading`]). A reader takes [`Lines`] from the bytes one after another, and
-//! [`Words`] from a line.
+//! The grammar of proof files: what a proof holds ([`Proof`]), and the lines that spell it
+//! (`specs/ProofLines.antt`). Also which proofs have a text (`specs/Limits.antt`, `specs/Sizes.antt`), and
+//! where bytes leave the grammar (`specs/FirstFaults.antt`). Each text is that of one proof, and bytes
+//! that are none have one first line that can't go on ([`one_reading`]). A reader takes [`Lines`] from the
+//! bytes one after another, and [`Words`] from a line.
 #![tactic(auto)]
 
 mod fault;

@@ -1,4 +1,7 @@
-//! The lines of a text, read one after another.
+//! The lines of a text, read one after another, with the number of the one that is read, for faults.
+//!
+//! In contracts, the lines are those left, cut into words at spaces (byte 32), and how many there are in
+//! all. `EndsAt` and `FaultAt` say at which line a fault is.
 ghost use Rattle.std.specs.Prelude.{◌≡◌, ◌∷◌, IfErr, IfOk, OnErr};
 ghost use Rattle.proof_grammar.specs.Cuts.{split};
 ghost use Rattle.proof_grammar.specs.LinesLeft.{EndsAt, FaultAt, IsEnd, Settles, begun};
@@ -7,7 +10,7 @@ use crate::fault::ProofFault;
 use crate::words::{Stop, cut};
 use std::marker::Model;
 
-/// The lines that are still to be read, and how many were.
+/// The lines that are still to be read, and how many were read.
 #[derive(Drop)]
 pub struct Lines<'a> {
     rest: &'a [u8],
@@ -26,7 +29,7 @@ impl<'a> Model for Lines<'a> {
 }
 
 impl<'a> Lines<'a> {
-    /// The lines of a text.
+    /// The lines of a text, none of which is taken.
     pub fn new(text: &'a [u8]) -> Lines<'a>
         ensures { result ≡ begun text.now }
     {
@@ -36,7 +39,8 @@ impl<'a> Lines<'a> {
         }
     }
 
-    /// The same lines, to be read once more.
+    /// The same lines, from the same one on, to be read once more. Taking from one leaves the other as it
+    /// is.
     pub fn copy(&self) -> Lines<'a>
         ensures { result ≡ self.now }
     {
@@ -46,7 +50,8 @@ impl<'a> Lines<'a> {
         }
     }
 
-    /// The next line, which is taken, or a fault at its number where there is none that ends.
+    /// Takes the next line, and answers it without its line feed. Where no line feed follows, nothing is
+    /// taken, and the fault is `At` the number of the next line.
     pub fn next(&mut self) -> Result<&'a [u8], ProofFault>
         ensures line { IfOk result (λ line. self.old.left ≡ split 32 line.now ∷ self.new.left) }
         ensures all { self.new.all ≡ self.old.all }
@@ -65,7 +70,7 @@ impl<'a> Lines<'a> {
         }
     }
 
-    /// Whether nothing is left, or a fault at the next line.
+    /// Ok where nothing is left, and else the fault `At` the number of the next line.
     pub fn end(&self) -> Result<(), ProofFault>
         ensures { IsEnd result self.now }
     {
@@ -78,7 +83,8 @@ impl<'a> Lines<'a> {
         }
     }
 
-    /// The fault of the line that was taken last.
+    /// The fault of a line that was taken last and whose reading stopped: `At` that line for `Form`, and
+    /// else `OutOfMemory`.
     pub fn fault(&self, stop: Stop) -> ProofFault
         ensures { FaultAt stop self.now result }
     {
@@ -89,7 +95,8 @@ impl<'a> Lines<'a> {
     }
 }
 
-/// What was read of the line that was taken last.
+/// The answer `read` of a call that read the line that was taken last; a `Form` becomes the fault `At`
+/// that line.
 pub fn settle<T>(lines: &Lines, read: Result<T, Stop>) -> Result<T, ProofFault>
     ensures { Settles read lines.now result }
 {

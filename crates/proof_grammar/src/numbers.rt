@@ -1,11 +1,14 @@
-//! Numbers that are spelled by one word.
+//! Numbers that are spelled by one word, each in its only spelling. Each call answers None where the word
+//! is no such number. What is named from 1 on in the text is numbered from 0 in memory. In contracts,
+//! `long_said` and its like are these readings.
 ghost use Rattle.std.specs.Prelude.{◌≡◌, ◌<◌, ◌^◌, IfSome, suc};
 ghost use Rattle.proof_grammar.specs.Words.{decimal_said, divisor_said, long_said, named_long, named_short, named_short_or_0, place_said, positive_said, short_said, whole_said};
 
 use edit_line::Place;
 use itoa::Buffer;
 
-/// The number that the word spells as it is printed: digits, and no zero in front.
+/// The number that the word spells as it is printed: digits alone, no zero in front, and below 2^128. None
+/// for any other word. It is printed again to see that, since `parse` also takes a plus and zeros.
 fn decimal(word: &[u8]) -> Option<u128>
     ensures { result ≡ decimal_said word.now }
 {
@@ -23,7 +26,7 @@ fn decimal(word: &[u8]) -> Option<u128>
     }
 }
 
-/// A number of 64 bits.
+/// The number below 2^64 that the word spells. None for any other word.
 pub fn long(word: &[u8]) -> Option<u64>
     ensures { result ≡ long_said word.now }
 {
@@ -35,7 +38,7 @@ pub fn long(word: &[u8]) -> Option<u64>
     }
 }
 
-/// A number of 32 bits.
+/// The number below 2^32 that the word spells. None for any other word.
 pub fn short(word: &[u8]) -> Option<u32>
     ensures { result ≡ short_said word.now }
 {
@@ -47,7 +50,8 @@ pub fn short(word: &[u8]) -> Option<u32>
     }
 }
 
-/// The number, from 0, of what is named from 1 to 2^64.
+/// The number, from 0, of a line or a step whose name is from 1 to 2^64: one less than the name. None for
+/// any other word.
 pub fn named_long(word: &[u8]) -> Option<u64>
     ensures { result ≡ named_long word.now }
 {
@@ -59,7 +63,8 @@ pub fn named_long(word: &[u8]) -> Option<u64>
     }
 }
 
-/// The number, from 0, of what is named from 1 to 2^32.
+/// The number, from 0, of a field, a rule, a row or a donor whose name is from 1 to 2^32. It is one less
+/// than the name. None for any other word.
 pub fn named_short(word: &[u8]) -> Option<u32>
     ensures { result ≡ named_short word.now }
 {
@@ -71,7 +76,8 @@ pub fn named_short(word: &[u8]) -> Option<u32>
     }
 }
 
-/// One less than a number of 64 bits that is not 0.
+/// One less than the number from 1 to 2^64 - 1 that the word spells. None for the word 0, so that a weight
+/// of at least 1 is read.
 pub fn positive(word: &[u8]) -> Option<u64>
     ensures read { result ≡ positive_said word.now }
     ensures fits { IfSome result (λ less. suc less < 2 ^ 64) }
@@ -84,7 +90,8 @@ pub fn positive(word: &[u8]) -> Option<u64>
     }
 }
 
-/// A field from 1 on, or 0 for the constant.
+/// The place of a number in a line: the field of this name, from 1 to 2^32, or the constant for the word
+/// 0. None for any other word.
 pub fn place(word: &[u8]) -> Option<Place>
     ensures { result ≡ place_said word.now }
 {
@@ -95,7 +102,8 @@ pub fn place(word: &[u8]) -> Option<Place>
     }
 }
 
-/// The number, from 0, of what is named from 1 to 2^32, or the inner None for the word 0.
+/// The number, from 0, of what is named from 1 to 2^32; the inner None for the word 0, which names
+/// nothing. The outer None for any other word.
 pub fn named_short_or_none(word: &[u8]) -> Option<Option<u32>>
     ensures { result ≡ named_short_or_0 word.now }
 {
@@ -110,7 +118,8 @@ pub fn named_short_or_none(word: &[u8]) -> Option<Option<u32>>
 }
 
 /// The whole number in range that the word spells as it is printed: no plus, no zero in front, and no
-/// minus at 0.
+/// minus at 0. None for any other word. Out of range is -2^127, since numbers are of absolute value at
+/// most 2^127 - 1.
 pub fn whole(word: &[u8]) -> Option<i128>
     ensures { result ≡ whole_said word.now }
 {
@@ -128,7 +137,8 @@ pub fn whole(word: &[u8]) -> Option<i128>
     }
 }
 
-/// A whole number in range, spelled as it is printed, that is not negative.
+/// The whole number in range that the word spells, or None where it is negative or the word spells none.
+/// That 0 is no divisor is a condition on a proof, and not on its text.
 pub fn divisor(word: &[u8]) -> Option<i128>
     ensures { result ≡ divisor_said word.now }
 {

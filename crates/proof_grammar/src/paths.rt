@@ -1,4 +1,4 @@
-//! The word of a path.
+//! The word of a path: a letter for each of the first fields in path order.
 ghost use Rattle.std.specs.Prelude.{◌≡◌, Some, map};
 ghost use Rattle.std.specs.List.{list_all};
 ghost use Rattle.proof_grammar.specs.Words.{ReadsAs, is_changed, is_path_letter, path_said};
@@ -7,7 +7,8 @@ use crate::words::Stop;
 use bound_cert::Path;
 use std::alloc::Global;
 
-/// The letters of a path: `-` for none, else K for a kept field and C for a changed one.
+/// The path that the word spells: `-` is the path of no fields, and else K is a kept field and C a changed
+/// one. `Form` where the word is no path, such as an empty one.
 pub fn path(alloc: Global, word: &[u8]) -> Result<Path, Stop>
     ensures { ReadsAs result (path_said word.now) }
 {
@@ -23,14 +24,15 @@ pub fn path(alloc: Global, word: &[u8]) -> Result<Path, Stop>
     letters(alloc, word)
 }
 
-// Whether each byte is a letter of a path.
+// Whether each byte is K or C.
 fn are_letters(word: &[u8]) -> bool
     ensures { result ≡ list_all is_path_letter word.now }
 {
     word.iter().all(|b| *b == b'K' || *b == b'C')
 }
 
-// Whether each letter says changed.
+// The path of these letters: C is a changed field, and any other byte a kept one. The caller has seen that
+// each is K or C.
 fn letters(alloc: Global, word: &[u8]) -> Result<Path, Stop>
     ensures { ReadsAs result (Some (map is_changed word.now)) }
 {

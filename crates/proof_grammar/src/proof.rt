@@ -1,3 +1,4 @@
+//! Proofs, as they are held in memory: what a proof file spells.
 use bound_cert::RowProof;
 use derivation::Step;
 use donor_book::Entry;

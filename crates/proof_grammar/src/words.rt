@@ -1,4 +1,8 @@
-//! The words of a line, read one after another.
+//! The words of a line, read one after another, each as what the grammar has in its place.
+//!
+//! In contracts, `Takes` says that the call answers what the grammar reads off the first word, and leaves
+//! the words behind it. Where the grammar reads nothing there, the answer is `Form`. `word_in` is that
+//! reading, and `ReadsAs` says the same of all words.
 ghost use Rattle.std.specs.Prelude.{◌≡◌, ◌==◌, ◌<◌, ◌^◌, [], ◌∷◌, IfErr, IfNone, IfOk, IfSome, OnErr, length, suc};
 ghost use Rattle.std.specs.List.{position};
 ghost use Rattle.proof_grammar.specs.Cuts.{split};
@@ -22,8 +26,9 @@ pub enum Stop {
     OutOfMemory,
 }
 
-/// The words that are still to be read. Between two words stands one space. A word that is not of the form that is asked
-/// for is not taken.
+/// The words that are still to be read. Between two words stands one space, so two spaces have an empty
+/// word between them. A word that is not of the form that is asked for is not taken: `Form` is answered
+/// then, as where no word is left.
 #[derive(Drop)]
 pub struct Words<'a> {
     rest: Option<&'a [u8]>,
@@ -46,7 +51,7 @@ impl<'a> Words<'a> {
         Words { rest: Some(line) }
     }
 
-    /// The next word, which is taken.
+    /// Takes the next word, or answers None where no word is left.
     pub fn next(&mut self) -> Option<&'a [u8]>
         ensures some { IfSome result (λ w. self.old ≡ w.now ∷ self.new) }
         ensures none { IfNone result (self.old ≡ []) }
@@ -67,7 +72,7 @@ impl<'a> Words<'a> {
         }
     }
 
-    // The next word and those behind it, where there is one.
+    // The next word and those behind it, none of which is taken. `Form` where no word is left.
     fn front(&self) -> Result<(&'a [u8], Words<'a>), Stop>
         ensures word { IfOk result (λ front. self.now ≡ front.0.now ∷ front.1) }
         ensures ended { IfErr result (λ stop. (stop ≡ Stop.Form) × (self.now ≡ [])) }
@@ -79,7 +84,7 @@ impl<'a> Words<'a> {
         }
     }
 
-    /// A number of 64 bits.
+    /// Takes a number below 2^64.
     pub fn long(&mut self) -> Result<u64, Stop>
         ensures taken { Takes result self.new (word_in long_said self.old) }
         ensures refused { OnErr result (self.new ≡ self.old) }
@@ -90,7 +95,7 @@ impl<'a> Words<'a> {
         Ok(read)
     }
 
-    /// A number of 32 bits.
+    /// Takes a number below 2^32.
     pub fn short(&mut self) -> Result<u32, Stop>
         ensures taken { Takes result self.new (word_in short_said self.old) }
         ensures refused { OnErr result (self.new ≡ self.old) }
@@ -101,7 +106,7 @@ impl<'a> Words<'a> {
         Ok(read)
     }
 
-    /// The number, from 0, of what is named from 1 to 2^64.
+    /// Takes the name, from 1 to 2^64, of a line or a step, and answers its number, from 0.
     pub fn named_long(&mut self) -> Result<u64, Stop>
         ensures taken { Takes result self.new (word_in named_long self.old) }
         ensures refused { OnErr result (self.new ≡ self.old) }
@@ -112,7 +117,8 @@ impl<'a> Words<'a> {
         Ok(read)
     }
 
-    /// The number, from 0, of what is named from 1 to 2^32.
+    /// Takes the name, from 1 to 2^32, of a field, a rule, a row or a donor, and answers its number, from
+    /// 0.
     pub fn named_short(&mut self) -> Result<u32, Stop>
         ensures taken { Takes result self.new (word_in named_short self.old) }
         ensures refused { OnErr result (self.new ≡ self.old) }
@@ -123,7 +129,8 @@ impl<'a> Words<'a> {
         Ok(read)
     }
 
-    /// The number, from 0, of what is named from 1 to 2^32, or None for the word 0.
+    /// Takes a name from 1 to 2^32 and answers its number, from 0, or None for the word 0, which names
+    /// nothing.
     pub fn named_short_or_none(&mut self) -> Result<Option<u32>, Stop>
         ensures taken { Takes result self.new (word_in named_short_or_0 self.old) }
         ensures refused { OnErr result (self.new ≡ self.old) }
@@ -134,7 +141,7 @@ impl<'a> Words<'a> {
         Ok(read)
     }
 
-    /// A whole number in range.
+    /// Takes a whole number in range, of absolute value at most 2^127 - 1.
     pub fn whole(&mut self) -> Result<i128, Stop>
         ensures taken { Takes result self.new (word_in whole_said self.old) }
         ensures refused { OnErr result (self.new ≡ self.old) }
@@ -145,7 +152,7 @@ impl<'a> Words<'a> {
         Ok(read)
     }
 
-    /// A whole number in range that is not negative.
+    /// Takes a whole number in range that is not negative.
     pub fn divisor(&mut self) -> Result<i128, Stop>
         ensures taken { Takes result self.new (word_in divisor_said self.old) }
         ensures refused { OnErr result (self.new ≡ self.old) }
@@ -156,7 +163,7 @@ impl<'a> Words<'a> {
         Ok(read)
     }
 
-    /// One less than a number of 64 bits that is not 0.
+    /// Takes a number from 1 to 2^64 - 1, and answers one less than it.
     pub fn positive(&mut self) -> Result<u64, Stop>
         ensures read { Takes result self.new (word_in positive_said self.old) }
         ensures fits { IfOk result (λ less. suc less < 2 ^ 64) }
@@ -168,7 +175,8 @@ impl<'a> Words<'a> {
         Ok(read)
     }
 
-    /// A field from 1 on, or 0 for the constant.
+    /// Takes the place of a number in a line of the rules: the name of a field, from 1, or 0 for the
+    /// constant.
     pub fn place(&mut self) -> Result<Place, Stop>
         ensures taken { Takes result self.new (word_in place_said self.old) }
         ensures refused { OnErr result (self.new ≡ self.old) }
@@ -179,7 +187,7 @@ impl<'a> Words<'a> {
         Ok(read)
     }
 
-    /// This word and no other.
+    /// Takes the word that is just `word`. Any other is `Form`, and is not taken.
     pub fn fixed(&mut self, word: &[u8]) -> Result<(), Stop>
         ensures taken { Takes result self.new (word_in (fixed_said word.now) self.old) }
         ensures refused { OnErr result (self.new ≡ self.old) }
@@ -192,7 +200,7 @@ impl<'a> Words<'a> {
         Ok(())
     }
 
-    /// The letters of a path.
+    /// Takes the letters of a path. This call alone takes memory.
     pub fn path(&mut self, alloc: Global) -> Result<Path, Stop>
         ensures taken { Takes result self.new (word_in path_said self.old) }
         ensures refused { OnErr result (self.new ≡ self.old) }
@@ -203,7 +211,7 @@ impl<'a> Words<'a> {
         Ok(path)
     }
 
-    /// Whether all words were read.
+    /// Ok where no word is left, and else `Form`.
     pub fn end(&self) -> Result<(), Stop>
         ensures { ReadsAs result (ended tt self.now) }
     {
@@ -214,7 +222,8 @@ impl<'a> Words<'a> {
     }
 }
 
-/// What stands before the first mark and behind it, or None where there is none.
+/// What stands before the first byte `mark` in the text, and what stands behind it. None where the text
+/// has no such byte.
 pub fn cut(text: &[u8], mark: u8) -> Option<(&[u8], &[u8])>
     ensures some { IfSome result (λ parts. split mark text.now ≡ parts.0.now ∷ split mark parts.1.now) }
     ensures shorter { IfSome result (λ parts. length parts.1.now < length text.now) }
@@ -226,7 +235,7 @@ pub fn cut(text: &[u8], mark: u8) -> Option<(&[u8], &[u8])>
     }
 }
 
-// The first place of the byte.
+// The first place of the byte, or None where the text doesn't have it.
 fn place_of(text: &[u8], byte: u8) -> Option<usize>
     ensures { result ≡ position (λ b. b == byte) text.now }
 {

@@ -1,4 +1,7 @@
-//! What a leaf keeps of its steps.
+//! What a leaf keeps of its steps once the lines that they derive stand in the table.
+//!
+//! `places` has the place in the table of each step of the leaf. `given` is the number of the lines of the
+//! rules, before those of the table.
 ghost use Rattle.std.specs.Prelude.{◌≡◌, ◌<◌, ◌||◌, ℕ, IfOk, OnOk, Some, None, false, if◌then◌else◌, length, map, slice_index_or};
 ghost use Rattle.derivation.specs.SharedLines.{and_kept, fails_at, is_failed, kept_step, last_of, shared_box, shared_line, shared_step};
 ghost use Rattle.derivation.specs.declared.step.Step.{Step};
@@ -8,7 +11,8 @@ use derivation::Step;
 use foundation::{OutOfMemory, Sequence};
 use std::alloc::Global;
 
-/// The name of the last line, behind this many given ones.
+/// The steps of a leaf that a line refutes: one step alone, which names the last of the leaf's lines in
+/// the table.
 pub(crate) fn shared_line(
     alloc: Global,
     given: u64,
@@ -21,7 +25,8 @@ pub(crate) fn shared_line(
     Ok(Sequence::from_vec(steps))
 }
 
-/// The boxes, and the names of the lines that become boxes, in order.
+/// The kept steps of a leaf that a box refutes, in order. They make boxes, or name in the table the lines
+/// that become boxes. Lines from which only other lines are derived are left out.
 pub(crate) fn shared_box(
     alloc: Global,
     given: u64,
@@ -44,14 +49,14 @@ pub(crate) fn shared_box(
     Ok(Sequence::from_vec(kept))
 }
 
-// The flag at a place, false where there is none.
+// The flag at `place`, false where there is none.
 fn flag_at(flags: &[bool], place: usize) -> bool
     ensures { result ≡ slice_index_or flags.now place false }
 {
     place < flags.len() && flags[place]
 }
 
-// The step at the end, if it is kept.
+// Puts the step `one` at the end of `kept`; changes nothing where it is None, since the step is left out.
 fn push_kept(kept: &mut Vec<Step>, one: Option<Step>) -> Result<(), OutOfMemory>
     ensures { OnOk result (kept.new.items ≡ and_kept kept.old.items one) }
 {
@@ -64,7 +69,9 @@ fn push_kept(kept: &mut Vec<Step>, one: Option<Step>) -> Result<(), OutOfMemory>
     }
 }
 
-// What is kept of a step, if it is; `new` has the new place of each step before it.
+// What is kept of a step, if something is. A step that makes a box is kept, with the new places of the
+// steps that it names, which `new` has. A step that gives a line is kept only where that becomes a box
+// (`failed`). It then names the line at its `place` in the table.
 fn kept_step(
     alloc: Global,
     given: u64,
@@ -89,7 +96,8 @@ fn kept_step(
     }
 }
 
-// The name of a line, if it becomes a box.
+// The step that names a line at its `place` in the table, where the line becomes a box (`failed`). None
+// for any other line.
 fn kept_line(failed: bool, given: u64, place: u64) -> Result<Option<Step>, OutOfMemory>
     ensures { IfOk result (λ kept. kept ≡ (if failed then Some (shared_step given place) else None)) }
 {
@@ -100,7 +108,8 @@ fn kept_line(failed: bool, given: u64, place: u64) -> Result<Option<Step>, OutOf
     }
 }
 
-// The new places of parts.
+// The new places of the steps at the places `parts`. `new` has the new place of each step before this one,
+// and 0 stands for one that it lacks.
 fn new_places(alloc: Global, new: &[u64], parts: &[u64]) -> Result<Sequence<u64>, OutOfMemory>
     ensures { IfOk result (λ places. places ≡ map (λ part. slice_index_or new.now part 0) parts.now) }
 {
@@ -111,7 +120,8 @@ fn new_places(alloc: Global, new: &[u64], parts: &[u64]) -> Result<Sequence<u64>
     Ok(Sequence::from_vec(places))
 }
 
-// The name of the line at this place of the table. No memory holds a table whose places pass 64 bits.
+// The step that names the line at this place of the table, behind the `given` lines of the rules. No memory
+// holds a table whose places pass 64 bits, so that case is answered as want of memory.
 fn shared_step(given: u64, place: u64) -> Result<Step, OutOfMemory>
     ensures { IfOk result (λ step. step ≡ shared_step given place) }
 {
@@ -121,7 +131,7 @@ fn shared_step(given: u64, place: u64) -> Result<Step, OutOfMemory>
     }
 }
 
-// The last number, 0 where there is none.
+// The last of the numbers, 0 where there is none.
 fn last_of(numbers: &[u64]) -> u64
     ensures { result ≡ last_of numbers.now }
 {
@@ -131,7 +141,7 @@ fn last_of(numbers: &[u64]) -> u64
     }
 }
 
-// Whether the line of each step becomes a box.
+// For each step whether a `fail` step makes a box of its line. `is_failed` says so in the contract.
 fn failed_flags(alloc: Global, steps: &[Step]) -> Result<Vec<bool>, OutOfMemory>
     ensures long { IfOk result (λ flags. length flags.items ≡ length steps.now) }
     ensures each { IfOk result (λ flags. (i : ℕ) → i < length steps.now → slice_index_or flags.items i false ≡ is_failed steps.now i) }
@@ -143,7 +153,7 @@ fn failed_flags(alloc: Global, steps: &[Step]) -> Result<Vec<bool>, OutOfMemory>
     Ok(flags)
 }
 
-// Marks the line of which the step makes a box, if it makes one.
+// Sets the flag of the step whose line becomes a box by this `step`. Any step but `fail` sets none.
 fn mark_failed(flags: &mut Vec<bool>, step: &Step)
     ensures long { length flags.new.items ≡ length flags.old.items }
     ensures each { (i : ℕ) → i < length flags.old.items
@@ -154,7 +164,7 @@ fn mark_failed(flags: &mut Vec<bool>, step: &Step)
     }
 }
 
-// Sets the flag at a place, if it is there.
+// Sets the flag at `place`, if there is one. `fails_at` says that a `fail` step names that place.
 fn set_flag(flags: &mut Vec<bool>, place: u64)
     ensures long { length flags.new.items ≡ length flags.old.items }
     ensures each { (i : ℕ) → i < length flags.old.items

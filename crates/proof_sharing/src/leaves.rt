@@ -1,4 +1,6 @@
-//! Trees that name their lines in the table.
+//! The leaves of a tree, changed so that they name their lines in the table.
+//!
+//! `given` is the number of the lines of the rules, behind which the lines of the table are numbered.
 ghost use Rattle.std.specs.Prelude.{◌≡◌, IfOk, OnOk};
 ghost use Rattle.derivation.specs.SharedLines.{tabled};
 ghost use Rattle.bound_cert.specs.SharedTrees.{shared_leaf, shared_leaves, shared_why, table_with_leaf, table_with_leaves};
@@ -11,7 +13,7 @@ use bound_cert::{Leaf, LeafWhy};
 use foundation::OutOfMemory;
 use std::alloc::Global;
 
-/// The leaves, with the names of their lines in the table, behind this many given ones. The table takes what it lacks.
+/// The leaves, with the names of their lines in the table. Lines that the table lacks are put at its end.
 pub(crate) fn share_leaves(
     alloc: Global,
     table: &mut LineTable,
@@ -28,7 +30,8 @@ pub(crate) fn share_leaves(
     Ok(shared)
 }
 
-// The leaf, with the names of its lines.
+// The leaf with the same path, whose reason names its lines in the table. Lines that the table lacks are
+// put at its end.
 fn share_leaf(
     alloc: Global,
     table: &mut LineTable,
@@ -44,7 +47,8 @@ fn share_leaf(
     })
 }
 
-// The reason of a leaf, with the names of its lines.
+// The reason of a leaf, with the names of its lines in the table. A reason without steps (`Bound`,
+// `BadKept`) stays as it is.
 fn share_why(
     alloc: Global,
     table: &mut LineTable,

@@ -1,5 +1,5 @@
-//! Proofs whose derived lines are written once, for all records: what makes a proof of version 2 of one of version 1.
-//! Begin with [`share_lines`]; `specs/SharedProofs.antt` states the proof that it gives.
+//! Proofs whose derived lines are written once, for all records: what makes a proof of version 2 of one of
+//! version 1. Begin with [`share_lines`]; `specs/SharedProofs.antt` states the proof that it gives.
 #![tactic(auto)]
 
 mod kept_steps;

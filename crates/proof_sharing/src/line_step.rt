@@ -1,4 +1,4 @@
-//! Steps that give a line by themselves, as keys.
+//! Steps that give a line by themselves, as keys of the table of lines.
 ghost use Rattle.std.specs.Prelude.{◌≡◌, IfOk, map, option_map, slice_index_or};
 ghost use Rattle.derivation.specs.SharedLines.{as_tabled};
 ghost use Rattle.proof_sharing.specs.inner.Tables.{step_of};
@@ -7,7 +7,8 @@ use derivation::Step;
 use foundation::{OutOfMemory, Sequence};
 use std::alloc::Global;
 
-/// A step that names a given line or combines two.
+/// A step that names a given line or combines two, as [`Step`] has them. It can be hashed and copied, which
+/// a step with a list can't.
 #[derive(Clone, Copy, Debug, PartialEq, Eq, Hash)]
 pub(crate) enum LineStep {
     Given(u64),
@@ -21,7 +22,7 @@ pub(crate) enum LineStep {
 }
 
 impl LineStep {
-    /// The step.
+    /// The step that the key stands for.
     pub(crate) fn step(self) -> Step
         ensures { result ≡ step_of self }
     {
@@ -32,7 +33,7 @@ impl LineStep {
     }
 }
 
-/// The steps of keys, in order.
+/// The steps that the keys stand for, in order.
 pub(crate) fn steps_of(alloc: Global, keys: &[LineStep]) -> Result<Sequence<Step>, OutOfMemory>
     ensures { IfOk result (λ steps. steps ≡ map step_of keys.now) }
 {
@@ -43,7 +44,8 @@ pub(crate) fn steps_of(alloc: Global, keys: &[LineStep]) -> Result<Sequence<Step
     Ok(Sequence::from_vec(steps))
 }
 
-/// The step as it stands in a table, if it gives a line; `places` has the place there of each step before it.
+/// The step as it stands in a table: a combination names its two lines by their places there. `places` has
+/// the place in the table of each step before this one. None for a step that makes a box.
 pub(crate) fn as_tabled(places: &[u64], step: &Step) -> Option<LineStep>
     ensures { option_map step_of result ≡ as_tabled places.now step.now }
 {

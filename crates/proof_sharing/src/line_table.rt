@@ -1,4 +1,7 @@
-//! The table of the steps whose lines are written once.
+//! The table of a proof of version 2: the steps whose lines are written once, while it is gathered.
+//!
+//! In contracts `with_step` is the table once a step is put in, and `place_in` the place that the step has
+//! there.
 ghost use Rattle.std.specs.Prelude.{◌≡◌, [], IfOk, OnOk, map};
 ghost use Rattle.derivation.specs.SharedLines.{place_in, with_step};
 ghost use Rattle.proof_sharing.specs.inner.Tables.{step_of};
@@ -37,7 +40,8 @@ impl LineTable {
         }
     }
 
-    /// Puts the step at the end, unless it is there, and tells its place.
+    /// Puts the step at the end, unless an equal one is there. The answer is the place of the step in the
+    /// table, from 0.
     pub(crate) fn put(&mut self, step: LineStep) -> Result<u64, OutOfMemory>
         ensures table { OnOk result (self.new ≡ with_step self.old (step_of step)) }
         ensures place { IfOk result (λ place. place ≡ place_in self.old (step_of step)) }
@@ -46,7 +50,7 @@ impl LineTable {
         Ok(place as u64)
     }
 
-    /// The steps, in order.
+    /// A copy of the steps, in the order in which they were put in.
     pub(crate) fn steps(&self, alloc: Global) -> Result<Sequence<Step>, OutOfMemory>
         ensures { IfOk result (λ steps. steps ≡ self.now) }
     {

@@ -1,4 +1,7 @@
-//! The steps of a leaf, put into the table.
+//! The steps of a leaf that give lines, put into the table.
+//!
+//! In contracts `tabled` is the table and the places once these steps are put in, and `with_tabled` once
+//! one more is. `tabled_of` is a table with the places of some steps in it.
 ghost use Rattle.std.specs.Prelude.{◌≡◌, ◌∷◌, ◌++◌, [], IfOk, OnOk};
 ghost use Rattle.derivation.specs.SharedLines.{as_tabled, tabled, tabled_of, with_tabled};
 
@@ -8,7 +11,8 @@ use derivation::Step;
 use foundation::OutOfMemory;
 use std::alloc::Global;
 
-/// Puts the steps that give lines into the table, and tells the place of each step there, 0 for another one.
+/// Puts the steps that give lines into the table, and tells the place of each step there. A step that makes
+/// a box has no place, and 0 stands for it.
 pub(crate) fn put_steps(
     alloc: Global,
     table: &mut LineTable,
@@ -25,7 +29,8 @@ pub(crate) fn put_steps(
     Ok(places)
 }
 
-// Puts the step into the table, if it gives a line, and tells its place there; `places` has those of the steps before it.
+// Puts the step into the table, if it gives a line, and tells its place there, or 0. `places` has those of
+// the steps before it.
 fn put_step(table: &mut LineTable, places: &[u64], step: &Step) -> Result<u64, OutOfMemory>
     ensures { IfOk result (λ place.
         tabled_of table.new (places.now ++ place ∷ []) ≡ with_tabled (tabled_of table.old places.now) (as_tabled places.now step.now)) }

@@ -1,4 +1,6 @@
-//! What is found of records, with trees that name their lines in the table.
+//! What is found of records, changed so that its trees name their lines in the table.
+//!
+//! `given` is the number of the lines of the rules, behind which the lines of the table are numbered.
 ghost use Rattle.std.specs.Prelude.{◌≡◌, IfOk, OnOk};
 ghost use Rattle.bound_cert.specs.SharedTrees.{leaves_in, shared_leaves, shared_outcome, shared_rows, table_with_leaves, table_with_rows};
 
@@ -8,9 +10,9 @@ use bound_cert::{Cert, Outcome, RowProof};
 use foundation::{OutOfMemory, Sequence};
 use std::alloc::Global;
 
-/// What is found of the records, with the names of the lines of their trees in the table, behind this many given
-/// ones. The table takes what it lacks. The trees that were given go one by one, so that there is never a second one
-/// of more than one record.
+/// What is found of the records, with the names of the lines of their trees in the table. Lines that the
+/// table lacks are put at its end. Each given tree is dropped once its record is done, so that only one
+/// record's tree is held twice.
 pub(crate) fn share_rows(
     alloc: Global,
     table: &mut LineTable,
@@ -31,7 +33,8 @@ pub(crate) fn share_rows(
     Ok(shared)
 }
 
-// What is found of a record, with the names of the lines of its tree.
+// What is found of a record, with the names of the lines of its tree. Where it has no tree, it stays as it
+// is.
 fn share_outcome(
     alloc: Global,
     table: &mut LineTable,
@@ -55,7 +58,7 @@ fn share_outcome(
     }
 }
 
-// The tree, with the names of its lines.
+// The tree of a record, with the names of its lines in the table.
 fn share_cert(
     alloc: Global,
     table: &mut LineTable,

@@ -1,3 +1,4 @@
+//! The proof of version 2 of one of version 1.
 ghost use Rattle.std.specs.Prelude.{◌≡◌, ◌+◌, ◌<◌, ◌^◌, IfOk, length};
 ghost use Rattle.proof_sharing.specs.SharedProofs.{shared_proof};
 
@@ -7,9 +8,9 @@ use foundation::{OutOfMemory, Sequence};
 use proof_grammar::Proof;
 use std::alloc::Global;
 
-/// The proof of version 2: each line that the steps of its leaves derive is written once, in the table, and the leaves
-/// name it there. What made a valid release with the proof makes one with the answer. The time is in proportion to the
-/// steps, and beside the proof and the answer there is never more than one tree twice.
+/// The proof of version 2. Each line that the steps of its leaves derive is written once, in the table,
+/// and the leaves name it there. A release that is valid with `proof`, of version 1, is valid with the
+/// answer. The time is in proportion to the steps. At no time is more than one record's tree held twice.
 pub fn share_lines(alloc: Global, proof: Proof) -> Result<Proof, OutOfMemory>
     ensures shared { IfOk result (λ shared. shared ≡ shared_proof proof) }
     ensures counted { IfOk result (λ shared. length shared.verdicts + length shared.table < 2 ^ 64) }

@@ -20,27 +20,33 @@ of_bytes : (bytes : List ℕ) (r : Reading Line Proof) → file_reading (lines_i
 of_bytes bytes r is = ap (λ (q : Reading Line Proof). whole_of q) (proof-reads (lines_in bytes) ∙ is)
 
 -- where all lines are read, they are the proof's
-pub file-found : (bytes : List ℕ) (old now : LinesLeft) (p : Proof) → old ≡ begun bytes → Reads (Ok p) old now (file_reading old.left) → now.left ≡ [] → IsPlain p × (bytes ≡ proof_text p)
+pub file-found : (bytes : List ℕ) (old now : LinesLeft) (p : Proof) → old ≡ begun bytes → Reads (Ok p) old now (file_reading old.left) → now.left ≡ []
+    → IsPlain p × (bytes ≡ proof_text p)
 file-found bytes old now p start (is, all) none =
     text-found bytes p (of_bytes bytes (Ok (p, [])) (ap (λ (l : LinesLeft). file_reading l.left) (sym start) ∙ is ∙ ap (λ (ls : List Line). Ok (p, ls)) none))
 
 -- the line of this number is the one at which reading stops
-numbered : (bytes : List ℕ) (left : List Line) (line : ℕ) → proof_of_bytes bytes ≡ Err left → line + length left ≡ suc (length (lines_in bytes)) → IsFirstFaultyLine bytes line
+numbered : (bytes : List ℕ) (left : List Line) (line : ℕ) → proof_of_bytes bytes ≡ Err left → line + length left ≡ suc (length (lines_in bytes))
+    → IsFirstFaultyLine bytes line
 numbered bytes left line is number =
     let (stop, there, fault) = text-stops bytes left is in
     let same : stop ≡ line = omega (arith, there, number) in subst (λ (n : ℕ). IsFirstFaultyLine bytes n) same fault
 
 -- a line that can't be read
-pub file-fault : (bytes : List ℕ) (old now : LinesLeft) (f : ProofFault) (line : ℕ) → old ≡ begun bytes → Reads {X = Proof} (Err f) old now (file_reading old.left) → f ≡ fault.At line → IsFirstFaultyLine bytes line
+pub file-fault : (bytes : List ℕ) (old now : LinesLeft) (f : ProofFault) (line : ℕ) → old ≡ begun bytes
+    → Reads {X = Proof} (Err f) old now (file_reading old.left) → f ≡ fault.At line → IsFirstFaultyLine bytes line
 file-fault bytes old now f line start reads same =
     let (left, is, number) = subst (λ (g : ProofFault). Reads {X = Proof} (Err g) old now (file_reading old.left)) same reads in
-    numbered bytes left line (of_bytes bytes (Err left) (ap (λ (l : LinesLeft). file_reading l.left) (sym start) ∙ is)) (omega (arith, number, ap (λ (l : LinesLeft). l.all) start))
+    numbered bytes left line (of_bytes bytes (Err left) (ap (λ (l : LinesLeft). file_reading l.left) (sym start) ∙ is))
+    (omega (arith, number, ap (λ (l : LinesLeft). l.all) start))
 
 -- a line behind the last
-pub end-fault : (bytes : List ℕ) (old now : LinesLeft) (p : Proof) (f : ProofFault) (line : ℕ) → old ≡ begun bytes → Reads (Ok p) old now (file_reading old.left) → IsEnd {X = Unit {0}} (Err f) now → f ≡ fault.At line → IsFirstFaultyLine bytes line
+pub end-fault : (bytes : List ℕ) (old now : LinesLeft) (p : Proof) (f : ProofFault) (line : ℕ) → old ≡ begun bytes
+    → Reads (Ok p) old now (file_reading old.left) → IsEnd {X = Unit {0}} (Err f) now → f ≡ fault.At line → IsFirstFaultyLine bytes line
 end-fault bytes old now p f line start (is, all) ends same =
     let (some, number) = subst (λ (g : ProofFault). IsEnd {X = Unit {0}} (Err g) now) same ends in
-    numbered bytes now.left line (of_bytes bytes (Ok (p, now.left)) (ap (λ (l : LinesLeft). file_reading l.left) (sym start) ∙ is) ∙ over now.left some) (omega (arith, number, all, ap (λ (l : LinesLeft). l.all) start))
+    numbered bytes now.left line (of_bytes bytes (Ok (p, now.left)) (ap (λ (l : LinesLeft). file_reading l.left) (sym start) ∙ is) ∙ over now.left some)
+    (omega (arith, number, all, ap (λ (l : LinesLeft). l.all) start))
   where
     over : (left : List Line) → left ≢ [] → whole_of {L = Line} {X = Proof} (Ok (p, left)) ≡ Err left
     over [] some = absurd (some (λ i. []))

@@ -2,7 +2,8 @@ use Rattle.std.proofs.Common.{◌≡◌, ℕ, ◌+◌, ◌<◌, List, [], ◌∷
 use Rattle.std.proofs.lemmas.List.{flat_map_more, take_more}
 use Rattle.std.specs.List.{AllByRecursion, flat_map}
 use Rattle.bound_cert.specs.Paths.{named}
-use Rattle.proof_grammar.specs.ProofLines.{Line, claim_line, count_line, has_table, line_text, lines_text, proof_text, row_lines_in, shared_from, table_lines, verdict_lines, words_text}
+use Rattle.proof_grammar.specs.ProofLines.{Line, claim_line, count_line, has_table, line_text, lines_text, proof_text, row_lines_in, shared_from, table_lines}
+use Rattle.proof_grammar.specs.ProofLines.{verdict_lines, words_text}
 use Rattle.donor_book.specs.declared.claim.Entry.{Entry}
 use Rattle.proof_grammar.specs.declared.proof.Proof.{Proof}
 use Rattle.bound_cert.specs.declared.outcome.RowProof.{RowProof}
@@ -67,31 +68,43 @@ all_more {X} P xs i d within all has = subst (AllByRecursion P) (sym (take_more 
     all_push (x ∷ ys) y (first, rest) p = (first, all_push ys y rest p)
 
 -- a count, its elements' lines, and lines behind them
-behind-count : (count : Line) (ls ks : List Line) (part rest : List ℕ) → lines_text ls ≡ part → lines_text ks ≡ rest → lines_text (count ∷ (ls ++ ks)) ≡ (line_text count ++ part) ++ rest
+behind-count : (count : Line) (ls ks : List Line) (part rest : List ℕ) → lines_text ls ≡ part → lines_text ks ≡ rest
+    → lines_text (count ∷ (ls ++ ks)) ≡ (line_text count ++ part) ++ rest
 behind-count count ls ks part rest first later =
-    ap (λ (bs : List ℕ). line_text count ++ bs) (lines-append ls ks ∙ ap (λ (bs : List ℕ). bs ++ lines_text ks) first ∙ ap (λ (bs : List ℕ). part ++ bs) later) ∙ sym (append_assoc (line_text count) part rest)
+    ap (λ (bs : List ℕ). line_text count ++ bs) (lines-append ls ks ∙ ap (λ (bs : List ℕ). bs ++ lines_text ks) first ∙ ap (λ (bs : List ℕ). part ++ bs) later)
+    ∙ sym (append_assoc (line_text count) part rest)
 
 -- the text of a proof is the texts of its parts
 pub proof-parts : (p : Proof) → proof_text p ≡ parts_text p
 proof-parts p =
-    ap (λ (bs : List ℕ). version_text p.version ++ (limits_text p ++ bs)) (behind-count (count_line (codes "lines") p.verdicts) (flat_map verdict_lines p.verdicts) _ (flat_map verdict_text p.verdicts) _ (flat-text verdict_lines p.verdicts)
+    ap (λ (bs : List ℕ). version_text p.version ++ (limits_text p ++ bs))
+    (behind-count (count_line (codes "lines") p.verdicts) (flat_map verdict_lines p.verdicts) _ (flat_map verdict_text p.verdicts) _
+    (flat-text verdict_lines p.verdicts)
     (lines-append (table_lines (has_table p.version) p.table) _ ∙ ap (λ (bs : List ℕ). table_text (has_table p.version) p.table ++ bs)
-    (behind-count (count_line (codes "records") p.rows) (flat_map (row_lines_in shared) p.rows) _ (flat_map (λ (row : RowProof). lines_text (row_lines_in shared row)) p.rows) _ (flat-text (row_lines_in shared) p.rows)
-    (behind-count (count_line (codes "claims") p.claims) (map claim_line p.claims) ((codes "end" ∷ []) ∷ []) (flat_map (λ (claim : Entry). line_text (claim_line claim)) p.claims) (codes "end\n") (map-text claim_line p.claims) refl))))
+    (behind-count (count_line (codes "records") p.rows) (flat_map (row_lines_in shared) p.rows) _
+    (flat_map (λ (row : RowProof). lines_text (row_lines_in shared row)) p.rows) _ (flat-text (row_lines_in shared) p.rows)
+    (behind-count (count_line (codes "claims") p.claims) (map claim_line p.claims) ((codes "end" ∷ []) ∷ [])
+    (flat_map (λ (claim : Entry). line_text (claim_line claim)) p.claims) (codes "end\n") (map-text claim_line p.claims) refl))))
   where
     shared : Option ℕ
     shared = shared_from (has_table p.version) (length p.verdicts)
 
 -- seven texts, one behind another
-pub seven-appended : (t0 t1 t2 t3 t4 t5 t6 t7 a b c d e f g : List ℕ) → t1 ≡ t0 ++ a → t2 ≡ t1 ++ b → t3 ≡ t2 ++ c → t4 ≡ t3 ++ d → t5 ≡ t4 ++ e → t6 ≡ t5 ++ f → t7 ≡ t6 ++ g → t7 ≡ t0 ++ (a ++ (b ++ (c ++ (d ++ (e ++ (f ++ g))))))
+pub seven-appended : (t0 t1 t2 t3 t4 t5 t6 t7 a b c d e f g : List ℕ) → t1 ≡ t0 ++ a → t2 ≡ t1 ++ b → t3 ≡ t2 ++ c → t4 ≡ t3 ++ d → t5 ≡ t4 ++ e → t6 ≡ t5 ++ f
+    → t7 ≡ t6 ++ g → t7 ≡ t0 ++ (a ++ (b ++ (c ++ (d ++ (e ++ (f ++ g))))))
 seven-appended t0 t1 t2 t3 t4 t5 t6 t7 a b c d e f g first second third fourth fifth sixth seventh =
     seventh ∙ ap (λ (t : List ℕ). t ++ g) sixth ∙ append_assoc t5 f g ∙ ap (λ (t : List ℕ). t ++ (f ++ g)) fifth ∙ append_assoc t4 e (f ++ g)
-    ∙ ap (λ (t : List ℕ). t ++ (e ++ (f ++ g))) fourth ∙ append_assoc t3 d (e ++ (f ++ g)) ∙ ap (λ (t : List ℕ). t ++ (d ++ (e ++ (f ++ g)))) third ∙ append_assoc t2 c (d ++ (e ++ (f ++ g)))
-    ∙ ap (λ (t : List ℕ). t ++ (c ++ (d ++ (e ++ (f ++ g))))) second ∙ append_assoc t1 b (c ++ (d ++ (e ++ (f ++ g)))) ∙ ap (λ (t : List ℕ). t ++ (b ++ (c ++ (d ++ (e ++ (f ++ g)))))) first ∙ append_assoc t0 a (b ++ (c ++ (d ++ (e ++ (f ++ g)))))
+    ∙ ap (λ (t : List ℕ). t ++ (e ++ (f ++ g))) fourth ∙ append_assoc t3 d (e ++ (f ++ g)) ∙ ap (λ (t : List ℕ). t ++ (d ++ (e ++ (f ++ g)))) third
+    ∙ append_assoc t2 c (d ++ (e ++ (f ++ g)))
+    ∙ ap (λ (t : List ℕ). t ++ (c ++ (d ++ (e ++ (f ++ g))))) second ∙ append_assoc t1 b (c ++ (d ++ (e ++ (f ++ g))))
+    ∙ ap (λ (t : List ℕ). t ++ (b ++ (c ++ (d ++ (e ++ (f ++ g)))))) first ∙ append_assoc t0 a (b ++ (c ++ (d ++ (e ++ (f ++ g)))))
 
 -- the words of a combination, piece by piece
-pub combine-words : (t0 t1 t2 t3 t4 a m b n g : List ℕ) → t1 ≡ t0 ++ codes "combine" → t2 ≡ (t1 ++ (32 ∷ a)) ++ (32 ∷ m) → t3 ≡ (t2 ++ (32 ∷ b)) ++ (32 ∷ n) → t4 ≡ t3 ++ (32 ∷ g)
+pub combine-words : (t0 t1 t2 t3 t4 a m b n g : List ℕ) → t1 ≡ t0 ++ codes "combine" → t2 ≡ (t1 ++ (32 ∷ a)) ++ (32 ∷ m) → t3 ≡ (t2 ++ (32 ∷ b)) ++ (32 ∷ n)
+    → t4 ≡ t3 ++ (32 ∷ g)
     → t4 ≡ t0 ++ words_text (codes "combine" ∷ a ∷ m ∷ b ∷ n ∷ g ∷ [])
 combine-words t0 t1 t2 t3 t4 a m b n g first second third fourth =
-    rw (fourth, third, second, first) (simp append_assoc (ap (λ (w : List ℕ). t0 ++ (codes "combine " ++ w)) (append_assoc a (32 ∷ (m ++ (32 ∷ (b ++ (32 ∷ n))))) (32 ∷ g)
-    ∙ ap (λ (w : List ℕ). a ++ (32 ∷ w)) (append_assoc m (32 ∷ (b ++ (32 ∷ n))) (32 ∷ g) ∙ ap (λ (w : List ℕ). m ++ (32 ∷ w)) (append_assoc b (32 ∷ n) (32 ∷ g))))))
+    rw (fourth, third, second, first) (simp append_assoc
+    (ap (λ (w : List ℕ). t0 ++ (codes "combine " ++ w)) (append_assoc a (32 ∷ (m ++ (32 ∷ (b ++ (32 ∷ n))))) (32 ∷ g)
+    ∙ ap (λ (w : List ℕ). a ++ (32 ∷ w)) (append_assoc m (32 ∷ (b ++ (32 ∷ n))) (32 ∷ g)
+    ∙ ap (λ (w : List ℕ). m ++ (32 ∷ w)) (append_assoc b (32 ∷ n) (32 ∷ g))))))

@@ -1,15 +1,17 @@
-//! What the versions of a proof file differ in.
+//! What the two versions of a proof file differ in: version 2 has a table of the lines that all records
+//! share.
 ghost use Rattle.std.specs.Prelude.{◌≡◌};
 ghost use Rattle.proof_grammar.specs.ProofLines.{has_table, shared_from};
 
-/// Whether the lines that all records share are written once, in a table.
+/// Whether a file of this version has a table: version 2 alone does.
 pub(crate) fn has_table(version: u32) -> bool
     ensures { result ≡ has_table version }
 {
     version == 2
 }
 
-/// Behind how many given lines those of the table stand, where there is one.
+/// The number of given lines behind which those of the table are numbered: `count`, that of the lines of
+/// the rules. None where no table is `there`.
 pub(crate) fn shared_from(there: bool, count: usize) -> Option<u64>
     ensures { result ≡ shared_from there count }
 {

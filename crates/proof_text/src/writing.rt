@@ -1,11 +1,20 @@
-//! A proof as the bytes of a file.
+//! A proof, written as the bytes of a file. The files below append its parts. Where memory is refused,
+//! part of a text may stand, which is then dropped.
+//!
+//! `shared` is the number of the lines of the rules, behind which those of a table are numbered. It is
+//! None where the file has no table.
+//!
+//! In contracts, `IsSized` and its like say that each number of the text fits its type, and each list is
+//! counted by 64 bits. `IsPlain` says that a proof's text says it whole, and `IsOnlyOf` that no other
+//! plain proof has this text.
 ghost use Rattle.std.specs.Prelude.{◌≡◌, ◌++◌, IfOk, OnOk};
 ghost use Rattle.proof_grammar.specs.FirstFaults.{IsOnlyOf};
 ghost use Rattle.proof_grammar.specs.Limits.{AreFit, IsEntry, IsLong, IsPlain, IsRowProof, IsShort};
 ghost use Rattle.proof_grammar.specs.ProofLines.{proof_text};
 ghost use Rattle.proof_grammar.specs.Sizes.{IsSized, IsSizedRow, IsSizedTable, IsSizedVerdict};
 ghost use Rattle.proof_text.specs.RowTexts.{IsOnlyRow, row_text};
-ghost use Rattle.proof_text.specs.inner.Texts.{claims_text, limits_text, parts_text, rows_text, table_text, verdict_text, verdicts_text, version_text};
+ghost use Rattle.proof_text.specs.inner.Texts.{claims_text, limits_text, parts_text, rows_text, table_text, verdict_text, verdicts_text};
+ghost use Rattle.proof_text.specs.inner.Texts.{version_text};
 
 mod claims;
 mod leaves;
@@ -26,8 +35,8 @@ pub use steps::write_step;
 use steps::write_steps;
 use words::{write_count, write_number};
 
-/// The text of a proof. No other plain proof has the text of a plain one. Each number that the text says is one
-/// of its type, and each list is counted by 64 bits.
+/// The text of a proof. Of plain proofs, which their texts say whole, no other has the text of a plain
+/// one.
 pub fn write_proof(alloc: Global, proof: &Proof) -> Result<Vec<u8>, OutOfMemory>
     ensures text { IfOk result (λ text. text.items ≡ proof_text proof.now) }
     ensures only { IfOk result (λ text. IsPlain proof.now → IsOnlyOf text.items proof.now) }
@@ -38,8 +47,9 @@ pub fn write_proof(alloc: Global, proof: &Proof) -> Result<Vec<u8>, OutOfMemory>
     Ok(text)
 }
 
-/// The text of a row: its head and its leaves, as a proof file without a table has them. No other plain row has the text of a plain
-/// one. Each number that the text says is one of its type, and each list is counted by 64 bits.
+/// The text of a row, which is its head and its leaves, as a proof file without a table has it. The file
+/// of a panel has it too. Of plain rows, which hold no more than their text says, no other has the text of
+/// a plain one.
 pub fn row_text(alloc: Global, row: &RowProof) -> Result<Vec<u8>, OutOfMemory>
     ensures text { IfOk result (λ text. text.items ≡ row_text row.now) }
     ensures only { IfOk result (λ text. IsRowProof row.now → IsOnlyRow text.items row.now) }
@@ -50,7 +60,7 @@ pub fn row_text(alloc: Global, row: &RowProof) -> Result<Vec<u8>, OutOfMemory>
     Ok(text)
 }
 
-// Appends the lines of a proof.
+// Appends all lines of a proof, in their order.
 fn write_parts(text: &mut Vec<u8>, proof: &Proof) -> Result<(), OutOfMemory>
     ensures text { OnOk result (text.new.items ≡ text.old.items ++ parts_text proof.now) }
     ensures sized { OnOk result (IsSized proof.now) }
@@ -67,7 +77,7 @@ fn write_parts(text: &mut Vec<u8>, proof: &Proof) -> Result<(), OutOfMemory>
     Ok(())
 }
 
-// Appends the first line.
+// Appends the first line, as `fh-proof 1`, with the version.
 fn write_version(text: &mut Vec<u8>, version: u32) -> Result<(), OutOfMemory>
     ensures { OnOk result (text.new.items ≡ text.old.items ++ version_text version) }
 {
@@ -77,7 +87,7 @@ fn write_version(text: &mut Vec<u8>, version: u32) -> Result<(), OutOfMemory>
     Ok(())
 }
 
-// Appends the count of the steps of the table and their lines, where it is there.
+// Appends the count of the steps of the table and their lines, where the file has one (`there`).
 fn write_table(text: &mut Vec<u8>, there: bool, table: &[Step]) -> Result<(), OutOfMemory>
     ensures text { OnOk result (text.new.items ≡ text.old.items ++ table_text there table.now) }
     ensures sized { OnOk result (IsSizedTable there table.now) }
@@ -89,7 +99,7 @@ fn write_table(text: &mut Vec<u8>, there: bool, table: &[Step]) -> Result<(), Ou
     write_steps(text, None, table)
 }
 
-// Appends the line of the limits.
+// Appends the second line, as `limit 1 near 5 budget 1000000`, with the limits of the run.
 fn write_limits(text: &mut Vec<u8>, proof: &Proof) -> Result<(), OutOfMemory>
     ensures text { OnOk result (text.new.items ≡ text.old.items ++ limits_text proof.now) }
     ensures sized { OnOk result (IsShort proof.now.limit × IsShort proof.now.near × IsLong proof.now.budget) }
@@ -104,7 +114,7 @@ fn write_limits(text: &mut Vec<u8>, proof: &Proof) -> Result<(), OutOfMemory>
     Ok(())
 }
 
-// Appends the count of the verdicts and their lines.
+// Appends the line that counts the verdicts, as `lines 2`, and their lines.
 fn write_verdicts(
     text: &mut Vec<u8>,
     verdicts: &[Option<Sequence<Step>>],
@@ -120,7 +130,8 @@ fn write_verdicts(
     Ok(())
 }
 
-// Appends the lines of a verdict.
+// Appends the lines of a verdict: `keep`, or `drop` with its steps. They are of the rules alone, so they
+// name no line of the table.
 fn write_verdict(text: &mut Vec<u8>, verdict: &Option<Sequence<Step>>) -> Result<(), OutOfMemory>
     ensures text { OnOk result (text.new.items ≡ text.old.items ++ verdict_text verdict.now) }
     ensures sized { OnOk result (IsSizedVerdict verdict.now) }
@@ -137,7 +148,7 @@ fn write_verdict(text: &mut Vec<u8>, verdict: &Option<Sequence<Step>>) -> Result
     }
 }
 
-// Appends the count of the rows and their lines.
+// Appends the line that counts the rows, as `records 2`, and their lines.
 fn write_rows(text: &mut Vec<u8>, shared: Option<u64>, rows: &[RowProof]) -> Result<(), OutOfMemory>
     ensures text { OnOk result (text.new.items ≡ text.old.items ++ rows_text shared rows.now) }
     ensures sized { OnOk result (AreFit IsSizedRow rows.now) }
@@ -150,7 +161,7 @@ fn write_rows(text: &mut Vec<u8>, shared: Option<u64>, rows: &[RowProof]) -> Res
     Ok(())
 }
 
-// Appends the count of the claims and their lines.
+// Appends the line that counts the claims, as `claims 2`, and their lines.
 fn write_claims(text: &mut Vec<u8>, claims: &[Entry]) -> Result<(), OutOfMemory>
     ensures text { OnOk result (text.new.items ≡ text.old.items ++ claims_text claims.now) }
     ensures sized { OnOk result (AreFit IsEntry claims.now) }

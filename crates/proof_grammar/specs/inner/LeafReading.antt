@@ -23,18 +23,23 @@ path_and_number_in to ws =
     then_in (word_in path_said ws) (λ path ws.
     then_in (word_in long_said ws) (λ n ws. ended (to path n) ws))
 
+-- `bound`, behind its word
 abbrev pub bound_in : Line → Option LeafHead
 bound_in ws = path_in (λ path. BoundAt path) ws
 
+-- `bad`, behind its word
 abbrev pub bad_in : Line → Option LeafHead
 bad_in ws = path_in (λ path. BadAt path) ws
 
+-- `line`, behind its word: how many steps follow
 abbrev pub line_in : Line → Option LeafHead
 line_in ws = path_and_number_in (λ path n. LineAt path n) ws
 
+-- `box`, behind its word: how many steps follow
 abbrev pub box_in : Line → Option LeafHead
 box_in ws = path_and_number_in (λ path n. BoxAt path n) ws
 
+-- the head of a leaf
 abbrev pub leaf_in : Line → Option LeafHead
 leaf_in [] = None
 leaf_in (w ∷ ws) =
@@ -44,6 +49,7 @@ leaf_in (w ∷ ws) =
     else if bytes_eq w (codes "box") then box_in ws
     else None
 
+-- this number of steps, of a verdict
 abbrev pub steps_reading : ℕ → List Line → Reading Line (List Step)
 steps_reading n ls = read_many (read_line step_in) n ls
 
@@ -58,5 +64,6 @@ behind_leaf shared (BadAt path) ls = Ok (record { path = path; why = why.BadKept
 behind_leaf shared (LineAt path n) ls = seen (λ steps. record { path = path; why = why.Line steps }) (leaf_steps_reading shared n ls)
 behind_leaf shared (BoxAt path n) ls = seen (λ steps. record { path = path; why = why.Box steps }) (leaf_steps_reading shared n ls)
 
+-- a leaf: its head, and the steps behind it
 abbrev pub leaf_reading : Option ℕ → List Line → Reading Line Leaf
 leaf_reading shared ls = then_read (read_line leaf_in ls) (behind_leaf shared)

@@ -15,6 +15,7 @@ abbrev pub line_read : {L X : Type 0} → L → List L → Option X → Reading 
 line_read l ls None = Err (l ∷ ls)
 line_read l ls (Some x) = Ok (x, ls)
 
+-- the next line, of a form; nothing can go on where none is left
 abbrev pub read_line : {L X : Type 0} → (L → Option X) → List L → Reading L X
 read_line said [] = Err []
 read_line said (l ∷ ls) = line_read l ls (said l)

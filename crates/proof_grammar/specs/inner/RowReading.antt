@@ -17,9 +17,11 @@ use Rattle.proof_grammar.specs.inner.WordLists.{then_in}
 
 -- How rows are read.
 
+-- `clean`, behind its word
 abbrev pub clean_in : Line → Option RowHead
 clean_in ws = ended CleanAt ws
 
+-- `change`, behind its word: one less than the weight, the path, and how many leaves follow
 abbrev pub change_in : Line → Option RowHead
 change_in ws =
     then_in (word_in positive_said ws) (λ w ws.
@@ -35,6 +37,7 @@ gift_fault_behind (Some field) ws = then_in (word_in named_long ws) (λ line ws.
 abbrev pub gift_fault_in : Line → Front GiftFault
 gift_fault_in ws = then_in (word_in named_short_or_0 ws) gift_fault_behind
 
+-- `gift`, behind its word: the weight, the path, which number left the range, and how many leaves follow
 abbrev pub gift_in : Line → Option RowHead
 gift_in ws =
     then_in (word_in long_said ws) (λ weight ws.
@@ -42,9 +45,11 @@ gift_in ws =
     then_in (gift_fault_in ws) (λ fault ws.
     then_in (word_in long_said ws) (λ n ws. ended (GiftAt weight path fault n) ws))))
 
+-- `budget`, behind its word: the path, and the work that was done
 abbrev pub budget_in : Line → Option RowHead
 budget_in ws = path_and_number_in (λ path work. BudgetAt path work) ws
 
+-- `step`, behind its word: a number of a combination left the range
 abbrev pub step_event_in : Line → Option RowHead
 step_event_in ws =
     then_in (word_in path_said ws) (λ path ws.
@@ -52,15 +57,18 @@ step_event_in ws =
     then_in (word_in named_long ws) (λ second ws.
     then_in (word_in place_said ws) (λ place ws. ended (EventAt path (event.Step first second place)) ws))))
 
+-- `test`, behind its word: a number of a line at the record left the range
 abbrev pub test_event_in : Line → Option RowHead
 test_event_in ws =
     then_in (word_in path_said ws) (λ path ws.
     then_in (word_in named_long ws) (λ line ws.
     then_in (word_in named_short ws) (λ field ws. ended (EventAt path (event.Test line field)) ws)))
 
+-- `contradictory`, behind its word: how many leaves follow
 abbrev pub contradictory_in : Line → Option RowHead
 contradictory_in ws = then_in (word_in long_said ws) (λ n ws. ended (ContradictoryAt n) ws)
 
+-- the head of a record
 abbrev pub row_in : Line → Option RowHead
 row_in [] = None
 row_in (w ∷ ws) =
@@ -104,5 +112,6 @@ behind_row shared (BudgetAt path work) ls = Ok (record { outcome = outcome.Budge
 behind_row shared (EventAt path event) ls = Ok (record { outcome = outcome.Overflow path event; gift = None }, ls)
 behind_row shared (ContradictoryAt n) ls = seen contradictory_proof (read_many (leaf_reading shared) n ls)
 
+-- what is said of a record: its head, and the leaves behind it
 abbrev pub row_reading : Option ℕ → List Line → Reading Line RowProof
 row_reading shared ls = then_read (read_line row_in ls) (behind_row shared)

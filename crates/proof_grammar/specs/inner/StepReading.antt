@@ -8,9 +8,11 @@ use Rattle.proof_grammar.specs.inner.WordLists.{all_in, then_in}
 
 -- How the lines of steps are read.
 
+-- `given`, behind its word
 abbrev pub given_in : Line → Option Step
 given_in ws = then_in (word_in named_long ws) (λ i ws. ended (step.Given i) ws)
 
+-- `combine`, behind its word
 abbrev pub combine_in : Line → Option Step
 combine_in ws =
     then_in (word_in named_long ws) (λ a ws.
@@ -19,17 +21,21 @@ combine_in ws =
     then_in (word_in whole_said ws) (λ n ws.
     then_in (word_in divisor_said ws) (λ g ws. ended (step.Combine a m b n g) ws)))))
 
+-- `fail`, behind its word
 abbrev pub fail_in : Line → Option Step
 fail_in ws = then_in (word_in named_long ws) (λ a ws. ended (step.Fail a) ws)
 
+-- `cover`, behind its word
 abbrev pub cover_in : Line → Option Step
 cover_in ws = then_in (word_in named_short ws) (λ field ws. option_map (λ (parts : List ℕ). step.Cover field parts) (all_in named_long ws))
 
+-- `fix`, behind its word
 abbrev pub fix_in : Line → Option Step
 fix_in ws =
     then_in (word_in named_short ws) (λ field ws.
     then_in (word_in named_long ws) (λ part ws. ended (step.Fix field part) ws))
 
+-- a step, where there is no table
 abbrev pub step_in : Line → Option Step
 step_in [] = None
 step_in (w ∷ ws) =
@@ -42,6 +48,7 @@ step_in (w ∷ ws) =
 
 -- ---- steps of a table
 
+-- a step of a table: it gives a line
 abbrev pub table_step_in : Line → Option Step
 table_step_in [] = None
 table_step_in (w ∷ ws) =
@@ -64,6 +71,7 @@ few_given_in count ws = then_in (word_in named_long ws) (λ i ws. ended_if (nat_
 abbrev pub shared_in : ℕ → Line → Option Step
 shared_in count ws = then_in (word_in named_long ws) (λ k ws. ended_if (nat_lt (count + k) (2 ^ 64)) (step.Given (count + k)) ws)
 
+-- a step of a leaf, where there is a table behind this many given lines
 abbrev pub shared_step_in : ℕ → Line → Option Step
 shared_step_in count [] = None
 shared_step_in count (w ∷ ws) =
@@ -75,6 +83,7 @@ shared_step_in count (w ∷ ws) =
     else if bytes_eq w (codes "fix") then fix_in ws
     else None
 
+-- a step of a leaf, with a table or without one
 abbrev pub leaf_step_in : Option ℕ → Line → Option Step
 leaf_step_in None ws = step_in ws
 leaf_step_in (Some count) ws = shared_step_in count ws

@@ -14,6 +14,7 @@ consed None xs = None
 consed (Some x) None = None
 consed (Some x) (Some xs) = Some (x ∷ xs)
 
+-- what each of the words says; None where one says nothing
 abbrev pub all_in : {X : Type 0} → (List ℕ → Option X) → Line → Option (List X)
 all_in said [] = Some []
 all_in said (w ∷ ws) = consed (said w) (all_in said ws)

@@ -1,4 +1,8 @@
-//! The lines of claims.
+//! The lines of claims: the row that claims, the donor that it was given, if any, and the donors that it
+//! ranks.
+//!
+//! In contracts `claim_in` and its like are what the grammar reads off the words of a line. `ReadsAs` says
+//! that the call answers just that, or `Form` where that is nothing.
 ghost use Rattle.proof_grammar.specs.Cuts.{split};
 ghost use Rattle.proof_grammar.specs.inner.FileReading.{claim_behind, claim_in};
 ghost use Rattle.proof_grammar.specs.inner.Readings.{read_line};
@@ -13,13 +17,15 @@ use std::alloc::Global;
 impl Part for Entry {
     ghost reading = { λ shared. read_line claim_in };
 
+    // The claim whose line is at the front. It names no line of a table, so `shared` plays no part.
     fn read(alloc: Global, lines: &mut Lines, _shared: Option<u64>) -> Result<Entry, ProofFault> {
         let line = lines.next()?;
         settle(lines, claim(alloc, line))
     }
 }
 
-// The claim of a line.
+// The claim of a line that begins with the word `claim`. `Form` where it begins with another, or the rest
+// is no claim.
 fn claim(alloc: Global, line: &[u8]) -> Result<Entry, Stop>
     ensures { ReadsAs result (claim_in (split 32 line.now)) }
 {
@@ -28,7 +34,8 @@ fn claim(alloc: Global, line: &[u8]) -> Result<Entry, Stop>
     behind_claim(alloc, &mut words)
 }
 
-// The row that claims, the donor that it was given, and its ranking.
+// The claim of the words behind `claim`: its row, the donor that was given, or 0, and its ranking to the
+// end of the line. `Form` where they are none.
 fn behind_claim(alloc: Global, words: &mut Words) -> Result<Entry, Stop>
     ensures { ReadsAs result (claim_behind words.old) }
 {

@@ -1,7 +1,17 @@
-//! The lines of a whole file.
+//! The lines of a whole proof file, read from the first to the last: version, limits, verdicts, table,
+//! records, claims and end. Each `behind_..` call has the parts before and reads what follows them.
+//! `shared` is the number of the lines of the rules, behind which those of a table are numbered, or None
+//! without a table.
+//!
+//! In contracts `limits_in` and its like are what the grammar reads off the words of a line, and
+//! `table_reading` off lines. `ReadsAs` says that the call answers just that, or `Form` where that is
+//! nothing. `Reads` says the same of lines, and which are left behind it. Where the grammar reads nothing,
+//! the fault is at the first line that can't go on.
 ghost use Rattle.std.specs.Prelude.{codes};
 ghost use Rattle.proof_grammar.specs.Cuts.{split};
-ghost use Rattle.proof_grammar.specs.inner.FileReading.{behind_verdicts, behind_version, budget_behind, claims_reading, count_in, counted_reading, end_in, file_reading, limits_in, lists_reading, near_behind, rows_reading, table_reading, version_in, version_said};
+ghost use Rattle.proof_grammar.specs.inner.FileReading.{behind_verdicts, behind_version, budget_behind, claims_reading, count_in};
+ghost use Rattle.proof_grammar.specs.inner.FileReading.{counted_reading, end_in, file_reading, limits_in, lists_reading, near_behind};
+ghost use Rattle.proof_grammar.specs.inner.FileReading.{rows_reading, table_reading, version_in, version_said};
 ghost use Rattle.proof_grammar.specs.inner.Readings.{Reads, read_line};
 ghost use Rattle.proof_grammar.specs.inner.RowReading.{row_reading};
 ghost use Rattle.proof_grammar.specs.Words.{ReadsAs, Takes, word_in};
@@ -17,17 +27,16 @@ use foundation::Sequence;
 use proof_grammar::{Lines, ProofFault, RunLimits, Stop, Words, settle};
 use std::alloc::Global;
 
-/// The proof of all lines.
+/// The proof that all lines spell, but for what stands behind the line `end`.
 pub(super) fn file<'a>(alloc: Global, lines: &mut Lines<'a>) -> Result<ProofFile<'a>, ProofFault>
     ensures { Reads result lines.old lines.new (file_reading lines.old.left) }
 {
-    match next_version(lines) {
-        Ok(version) => behind_version(alloc, lines, version),
-        Err(fault) => Err(fault),
-    }
+    let version = next_version(lines)?;
+    behind_version(alloc, lines, version)
 }
 
-// The proof behind its first line.
+// Reads the limits and all that follows them. The `version` is read already, and the answer is the proof
+// of all parts.
 fn behind_version<'a>(
     alloc: Global,
     lines: &mut Lines<'a>,
@@ -35,13 +44,12 @@ fn behind_version<'a>(
 ) -> Result<ProofFile<'a>, ProofFault>
     ensures { Reads result lines.old lines.new (behind_version version lines.old.left) }
 {
-    match next_limits(lines) {
-        Ok(limits) => behind_limits(alloc, lines, version, limits),
-        Err(fault) => Err(fault),
-    }
+    let limits = next_limits(lines)?;
+    behind_limits(alloc, lines, version, limits)
 }
 
-// The proof of these limits, whose verdicts are at the front.
+// Reads the verdicts and all that follows them. The parts before are read already, and the answer is the
+// proof of all parts.
 fn behind_limits<'a>(
     alloc: Global,
     lines: &mut Lines<'a>,
@@ -50,13 +58,12 @@ fn behind_limits<'a>(
 ) -> Result<ProofFile<'a>, ProofFault>
     ensures { Reads result lines.old lines.new (lists_reading version limits lines.old.left) }
 {
-    match counted(alloc, lines, None, b"lines") {
-        Ok(verdicts) => behind_verdicts(alloc, lines, version, limits, verdicts),
-        Err(fault) => Err(fault),
-    }
+    let verdicts = counted_parts(alloc, lines, None, b"lines")?;
+    behind_verdicts(alloc, lines, version, limits, verdicts)
 }
 
-// The proof of these limits and verdicts, whose table is at the front, if there is one.
+// Reads the table, if the file has one, and all that follows it. The parts before are read already, and
+// the answer is the proof of all parts.
 fn behind_verdicts<'a>(
     alloc: Global,
     lines: &mut Lines<'a>,
@@ -66,13 +73,12 @@ fn behind_verdicts<'a>(
 ) -> Result<ProofFile<'a>, ProofFault>
     ensures { Reads result lines.old lines.new (behind_verdicts version limits verdicts lines.old.left) }
 {
-    match table(alloc, lines, has_table(version)) {
-        Ok(table) => behind_table(alloc, lines, version, limits, verdicts, table),
-        Err(fault) => Err(fault),
-    }
+    let table = table(alloc, lines, has_table(version))?;
+    behind_table(alloc, lines, version, limits, verdicts, table)
 }
 
-// The proof of these limits, verdicts and table, whose rows are at the front.
+// Reads the rows and all that follows them. The parts before are read already, and the answer is the proof
+// of all parts.
 fn behind_table<'a>(
     alloc: Global,
     lines: &mut Lines<'a>,
@@ -84,13 +90,12 @@ fn behind_table<'a>(
     ensures { Reads result lines.old lines.new (rows_reading version limits verdicts table lines.old.left) }
 {
     let shared = shared_from(has_table(version), verdicts.as_slice().len());
-    match counted_rows(alloc, lines, shared) {
-        Ok(rows) => behind_rows(alloc, lines, version, limits, verdicts, table, rows),
-        Err(fault) => Err(fault),
-    }
+    let rows = counted_rows(alloc, lines, shared)?;
+    behind_rows(alloc, lines, version, limits, verdicts, table, rows)
 }
 
-// The proof of these parts, whose claims are at the front.
+// Reads the claims and the line `end`. The parts before are read already, and the answer is the proof of
+// all parts.
 fn behind_rows<'a>(
     alloc: Global,
     lines: &mut Lines<'a>,
@@ -102,39 +107,33 @@ fn behind_rows<'a>(
 ) -> Result<ProofFile<'a>, ProofFault>
     ensures { Reads result lines.old lines.new (claims_reading version limits verdicts table rows.entry lines.old.left) }
 {
-    let claims = match counted(alloc, lines, None, b"claims") {
-        Ok(claims) => claims,
-        Err(fault) => return Err(fault),
-    };
-    match next_end(lines) {
-        Ok(()) => Ok(ProofFile {
-            version,
-            limit: limits.limit,
-            near: limits.near,
-            budget: limits.budget,
-            verdicts,
-            table,
-            rows,
-            claims,
-        }),
-        Err(fault) => Err(fault),
-    }
+    let claims = counted_parts(alloc, lines, None, b"claims")?;
+    next_end(lines)?;
+    Ok(ProofFile {
+        version,
+        limit: limits.limit,
+        near: limits.near,
+        budget: limits.budget,
+        verdicts,
+        table,
+        rows,
+        claims,
+    })
 }
 
-// The table, where there is one.
+// The steps of the table, where one is `there`. Else there are none, and no line is taken.
 fn table(alloc: Global, lines: &mut Lines, there: bool) -> Result<Sequence<Step>, ProofFault>
     ensures { Reads result lines.old lines.new (table_reading there lines.old.left) }
 {
     if !there {
         return Ok(Sequence::from_vec(Vec::new(alloc)));
     }
-    match next_count(lines, b"table") {
-        Ok(count) => table_steps(alloc, lines, count),
-        Err(fault) => Err(fault),
-    }
+    let count = next_count(lines, b"table")?;
+    table_steps(alloc, lines, count)
 }
 
-// The count of the rows, and the places of as many.
+// The line that counts the records, and the places of that many rows. Behind `shared` given lines those of
+// a table are numbered.
 fn counted_rows<'a>(
     alloc: Global,
     lines: &mut Lines<'a>,
@@ -142,14 +141,12 @@ fn counted_rows<'a>(
 ) -> Result<Sequence<RowPlace<'a>>, ProofFault>
     ensures { Reads result lines.old lines.new (counted_reading (count_in (codes "records")) (row_reading shared) lines.old.left) }
 {
-    match next_count(lines, b"records") {
-        Ok(count) => next_places(alloc, lines, shared, count),
-        Err(fault) => Err(fault),
-    }
+    let count = next_count(lines, b"records")?;
+    next_places(alloc, lines, shared, count)
 }
 
-// The count behind this word, and as many parts.
-fn counted<P: Part>(
+// The count behind this `word`, and as many parts.
+fn counted_parts<P: Part>(
     alloc: Global,
     lines: &mut Lines,
     shared: Option<u64>,
@@ -157,13 +154,11 @@ fn counted<P: Part>(
 ) -> Result<Sequence<P>, ProofFault>
     ensures { Reads result lines.old lines.new (counted_reading (count_in word.now) (P.reading shared) lines.old.left) }
 {
-    match next_count(lines, word) {
-        Ok(count) => parts(alloc, lines, shared, count),
-        Err(fault) => Err(fault),
-    }
+    let count = next_count(lines, word)?;
+    parts(alloc, lines, shared, count)
 }
 
-// The first line.
+// The version that the first line tells.
 fn next_version(lines: &mut Lines) -> Result<u32, ProofFault>
     ensures { Reads result lines.old lines.new (read_line version_in lines.old.left) }
 {
@@ -171,6 +166,7 @@ fn next_version(lines: &mut Lines) -> Result<u32, ProofFault>
     settle(lines, version(line))
 }
 
+// The version of a line `fh-proof VERSION`. `Form` for any other line.
 fn version(line: &[u8]) -> Result<u32, Stop>
     ensures { ReadsAs result (version_in (split 32 line.now)) }
 {
@@ -181,7 +177,7 @@ fn version(line: &[u8]) -> Result<u32, Stop>
     Ok(version)
 }
 
-// One of the versions.
+// The number of a version, 1 or 2; `Form` for any other word.
 fn version_number(words: &mut Words) -> Result<u32, Stop>
     ensures { Takes result words.new (word_in version_said words.old) }
 {
@@ -197,7 +193,7 @@ fn version_number(words: &mut Words) -> Result<u32, Stop>
     }
 }
 
-// The line of the limits.
+// The limits that the second line tells.
 fn next_limits(lines: &mut Lines) -> Result<RunLimits, ProofFault>
     ensures { Reads result lines.old lines.new (read_line limits_in lines.old.left) }
 {
@@ -205,6 +201,7 @@ fn next_limits(lines: &mut Lines) -> Result<RunLimits, ProofFault>
     settle(lines, limits(line))
 }
 
+// The limits of a line `limit L near K budget W`. `Form` for any other line.
 fn limits(line: &[u8]) -> Result<RunLimits, Stop>
     ensures { ReadsAs result (limits_in (split 32 line.now)) }
 {
@@ -214,7 +211,8 @@ fn limits(line: &[u8]) -> Result<RunLimits, Stop>
     near_behind(&mut words, limit)
 }
 
-// How many donors a row ranks, and what follows.
+// The limits of a line of which `limit` is read: how many donors a row ranks comes next, and then what
+// `budget_behind` reads.
 fn near_behind(words: &mut Words, limit: u32) -> Result<RunLimits, Stop>
     ensures { ReadsAs result (near_behind limit words.old) }
 {
@@ -223,7 +221,7 @@ fn near_behind(words: &mut Words, limit: u32) -> Result<RunLimits, Stop>
     budget_behind(words, limit, near)
 }
 
-// How much work a search may take.
+// The limits of a line of which `limit` and `near` are read: how much work a search may take comes last.
 fn budget_behind(words: &mut Words, limit: u32, near: u32) -> Result<RunLimits, Stop>
     ensures { ReadsAs result (budget_behind limit near words.old) }
 {
@@ -237,7 +235,7 @@ fn budget_behind(words: &mut Words, limit: u32, near: u32) -> Result<RunLimits, 
     })
 }
 
-// The count behind this word.
+// The count that stands behind this `word` on the next line.
 fn next_count(lines: &mut Lines, word: &[u8]) -> Result<u64, ProofFault>
     ensures { Reads result lines.old lines.new (read_line (count_in word.now) lines.old.left) }
 {
@@ -245,6 +243,7 @@ fn next_count(lines: &mut Lines, word: &[u8]) -> Result<u64, ProofFault>
     settle(lines, count(line, word))
 }
 
+// The count of a line that is this `word` and a number. `Form` for any other line.
 fn count(line: &[u8], word: &[u8]) -> Result<u64, Stop>
     ensures { ReadsAs result (count_in word.now (split 32 line.now)) }
 {
@@ -255,7 +254,7 @@ fn count(line: &[u8], word: &[u8]) -> Result<u64, Stop>
     Ok(count)
 }
 
-// The last line.
+// Reads the last line, which is `end`.
 fn next_end(lines: &mut Lines) -> Result<(), ProofFault>
     ensures { Reads result lines.old lines.new (read_line end_in lines.old.left) }
 {
@@ -263,6 +262,7 @@ fn next_end(lines: &mut Lines) -> Result<(), ProofFault>
     settle(lines, end(line))
 }
 
+// Ok where the line is the word `end` alone, and else `Form`.
 fn end(line: &[u8]) -> Result<(), Stop>
     ensures { ReadsAs result (end_in (split 32 line.now)) }
 {

@@ -1,3 +1,4 @@
+//! Lists without spare room: a proof has many, and each was grown while its end was not known.
 ghost use Rattle.std.specs.Prelude.{◌≡◌};
 
 use foundation::Sequence;

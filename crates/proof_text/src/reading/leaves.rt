@@ -1,4 +1,10 @@
-//! The lines of leaves.
+//! The lines of leaves: a head, which says the path and why it is closed, and steps where it has some.
+//!
+//! `shared` is the number of the lines of the rules, behind which those of a table are numbered. It is
+//! None where the file has no table. In contracts `leaf_in` and its like are what the grammar reads off
+//! the words of a line, and `leaf_reading` off lines. `ReadsAs` says that the call answers just that, or
+//! `Form` where that is nothing. `Reads` says the same of lines, and which are left behind it. Where the
+//! grammar reads nothing, the fault is at the first line that can't go on.
 ghost use Rattle.proof_grammar.specs.Cuts.{split};
 ghost use Rattle.proof_grammar.specs.inner.LeafReading.{bad_in, behind_leaf, bound_in, box_in, leaf_in, leaf_reading, line_in};
 ghost use Rattle.proof_grammar.specs.inner.Readings.{Reads, read_line};
@@ -12,16 +18,14 @@ use std::alloc::Global;
 impl Part for Leaf {
     ghost reading = { leaf_reading };
 
+    // The leaf whose lines are at the front: its head, and its steps where it has some.
     fn read(alloc: Global, lines: &mut Lines, shared: Option<u64>) -> Result<Leaf, ProofFault> {
-        let head = match next_head(alloc, lines) {
-            Ok(head) => head,
-            Err(fault) => return Err(fault),
-        };
+        let head = next_head(alloc, lines)?;
         behind_head(alloc, lines, shared, head)
     }
 }
 
-// The leaf of a head, whose steps are at the front.
+// The leaf whose `head` was read. As many steps as the head says are at the front, and are read here.
 fn behind_head(
     alloc: Global,
     lines: &mut Lines,
@@ -56,7 +60,7 @@ fn behind_head(
     }
 }
 
-// The head of the next line.
+// The head of the leaf that the next line is.
 fn next_head(alloc: Global, lines: &mut Lines) -> Result<LeafHead, ProofFault>
     ensures { Reads result lines.old lines.new (read_line leaf_in lines.old.left) }
 {
@@ -64,7 +68,8 @@ fn next_head(alloc: Global, lines: &mut Lines) -> Result<LeafHead, ProofFault>
     settle(lines, head(alloc, line))
 }
 
-// The head of a line.
+// The head of a leaf, by the first word of the line. `Form` for a word that begins no head, or where the
+// rest is not of its form.
 fn head(alloc: Global, line: &[u8]) -> Result<LeafHead, Stop>
     ensures { ReadsAs result (leaf_in (split 32 line.now)) }
 {
@@ -85,7 +90,8 @@ fn head(alloc: Global, line: &[u8]) -> Result<LeafHead, Stop>
     }
 }
 
-// A path that weighs enough.
+// The head behind the word `bound`: a path, which weighs enough by itself. `Form` where the words are no
+// path alone.
 fn bound(alloc: Global, words: &mut Words) -> Result<LeafHead, Stop>
     ensures { ReadsAs result (bound_in words.old) }
 {
@@ -94,7 +100,8 @@ fn bound(alloc: Global, words: &mut Words) -> Result<LeafHead, Stop>
     Ok(LeafHead::BoundAt(path))
 }
 
-// A path that keeps a field without a value.
+// The head behind the word `bad`: a path, which keeps a field without a value. `Form` where the words are
+// no path alone.
 fn bad(alloc: Global, words: &mut Words) -> Result<LeafHead, Stop>
     ensures { ReadsAs result (bad_in words.old) }
 {
@@ -103,7 +110,8 @@ fn bad(alloc: Global, words: &mut Words) -> Result<LeafHead, Stop>
     Ok(LeafHead::BadAt(path))
 }
 
-// A path that a line refutes.
+// The head behind the word `line`: a path that a line refutes, and how many steps behind the head prove
+// the line. `Form` where the words are not these two.
 fn by_line(alloc: Global, words: &mut Words) -> Result<LeafHead, Stop>
     ensures { ReadsAs result (line_in words.old) }
 {
@@ -113,7 +121,8 @@ fn by_line(alloc: Global, words: &mut Words) -> Result<LeafHead, Stop>
     Ok(LeafHead::LineAt(path, count))
 }
 
-// A path that a box refutes.
+// The head behind the word `box`: a path that a box refutes, and how many steps behind the head prove the
+// box. `Form` where the words are not these two.
 fn by_box(alloc: Global, words: &mut Words) -> Result<LeafHead, Stop>
     ensures { ReadsAs result (box_in words.old) }
 {

@@ -1,4 +1,7 @@
-//! Lists of what is named from 1 on, as rows and the places of lines.
+//! Lists of words that name something from 1 on: the donors of a ranking, and the steps that a cover names.
+//!
+//! In contracts, `all_in` is what all words name, and `ReadsAs` says that the call answers just that, or
+//! `Form` where that is nothing.
 ghost use Rattle.std.specs.Prelude.{◌≡◌};
 ghost use Rattle.proof_grammar.specs.Words.{ReadsAs, named_long, named_short};
 ghost use Rattle.proof_grammar.specs.inner.WordLists.{all_in};
@@ -8,14 +11,14 @@ use foundation::Sequence;
 use proof_grammar::{Stop, Words, named_long, named_short};
 use std::alloc::Global;
 
-/// A number, from 0, of what is named from 1 on.
+/// A type of numbers of what a text names: from 1 in the text, and from 0 in memory.
 pub(super) trait Named: Sized + Drop {
     ghost use Rattle.std.specs.Prelude.{List, Option, ℕ};
 
     /// The number that a word names.
     ghost named: { List ℕ → Option Self };
 
-    /// The number that the word names.
+    /// The number, from 0, that the word names, or None where it names none.
     fn number(word: &[u8]) -> Option<Self>
         ensures { result ≡ named word.now };
 }
@@ -23,6 +26,7 @@ pub(super) trait Named: Sized + Drop {
 impl Named for u64 {
     ghost named = { named_long };
 
+    // The number of a step, which is named from 1 to 2^64.
     fn number(word: &[u8]) -> Option<u64> {
         named_long(word)
     }
@@ -31,12 +35,14 @@ impl Named for u64 {
 impl Named for u32 {
     ghost named = { named_short };
 
+    // The number of a row, which is named from 1 to 2^32.
     fn number(word: &[u8]) -> Option<u32> {
         named_short(word)
     }
 }
 
-/// The numbers that all words name.
+/// The numbers that all words behind name, to the end of the line. `Form` where a word names none; no words
+/// give no numbers.
 pub(super) fn all_named<N: Named>(alloc: Global, words: &mut Words) -> Result<Sequence<N>, Stop>
     ensures { ReadsAs result (all_in N.named words.old) }
 {

@@ -1,4 +1,11 @@
-//! The parts of a proof that stand one after another.
+//! Lists of parts of a proof that stand one after another: verdicts, leaves, steps and claims.
+//!
+//! `shared` is the number of the lines of the rules, behind which those of a table are numbered. It is
+//! None where the file has no table.
+//!
+//! In contracts, `reading` is what the grammar reads off lines. `Reads` says that the call answers just
+//! that, and which lines are left behind it. Where the grammar reads nothing, the fault is at the first
+//! line that can't go on.
 ghost use Rattle.proof_grammar.specs.inner.Readings.{Reads, read_many};
 
 use super::fitted::fitted;
@@ -12,16 +19,16 @@ pub(super) trait Part: Sized + Drop {
     ghost use Rattle.proof_grammar.specs.ProofLines.{Line};
     ghost use Rattle.proof_grammar.specs.inner.Readings.{Reading};
 
-    /// How lines are read as such a part and what follows it, where lines of a table stand behind this many given
-    /// ones, if there is a table.
+    /// How lines are read as such a part, and what follows it. The first argument is `shared`.
     ghost reading: { Option ℕ → List Line → Reading Line Self };
 
-    /// The part at the front.
+    /// The part whose lines are at the front, which are taken.
     fn read(alloc: Global, lines: &mut Lines, shared: Option<u64>) -> Result<Self, ProofFault>
         ensures { Reads result lines.old lines.new (reading shared lines.old.left) };
 }
 
-/// As many parts as are asked for, one after another. Memory is taken for each when its lines were read.
+/// `count` parts, one after another. The first fault of a part ends the call. Memory is taken for each
+/// part when its lines were read, whatever the count says.
 pub(super) fn parts<P: Part>(
     alloc: Global,
     lines: &mut Lines,

@@ -1,4 +1,9 @@
-//! Where the rows of a proof file stand.
+//! Where the rows of a proof file stand. A row is read once, to see that it is one, dropped, and read
+//! again when it is asked for.
+//!
+//! In contracts, `row_reading` is what the grammar reads off lines as a row. `Reads` says that the call
+//! answers just that, and which lines are left behind it. Where the grammar reads nothing, the fault is at
+//! the first line that can't go on.
 ghost use Rattle.std.specs.Prelude.{◌≡◌, IfOk};
 ghost use Rattle.proof_grammar.specs.inner.Readings.{Reads, read_many};
 ghost use Rattle.proof_grammar.specs.inner.RowReading.{row_reading};
@@ -12,7 +17,8 @@ use proof_grammar::{Lines, ProofFault};
 use std::alloc::Global;
 use std::marker::Model;
 
-/// Where the lines of a row begin that was read. A contract sees the row that stands there; its tree takes no memory.
+/// Where the lines of a row begin that was read, and what is told of it without reading it again. A
+/// contract sees the row that stands there; its tree takes no memory.
 #[derive(Drop)]
 pub struct RowPlace<'a> {
     // The lines from its first on.
@@ -36,7 +42,7 @@ impl<'a> Model for RowPlace<'a> {
 }
 
 impl<'a> RowPlace<'a> {
-    /// The row, read once more.
+    /// The row, read once more. Its lines were read before, so memory alone can be refused.
     pub fn read(&self, alloc: Global) -> Result<RowProof, OutOfMemory>
         ensures { IfOk result (λ row. row ≡ self.now) }
     {
@@ -47,14 +53,14 @@ impl<'a> RowPlace<'a> {
         }
     }
 
-    /// The weight of its change, if it has one. No memory.
+    /// The weight of the change that was found of the record, or None where none was found. No memory.
     pub fn change_weight(&self) -> Option<u64>
         ensures { result ≡ change_weight self.now.outcome }
     {
         self.weight
     }
 
-    /// Why no values were given, if a number left the range. No memory.
+    /// Which number left the range while values were given, or None where none did. No memory.
     pub fn gift(&self) -> Option<GiftFault>
         ensures { result ≡ self.now.gift }
     {
@@ -62,7 +68,9 @@ impl<'a> RowPlace<'a> {
     }
 }
 
-/// The places of as many rows as are asked for, one after another. Each row is read, and let go.
+/// The places of `count` rows, one after another. Each row is read and dropped. Behind `shared` given
+/// lines those of a table are numbered. Memory is taken for a place when its row was read, whatever the
+/// count says.
 pub(super) fn next_places<'a>(
     alloc: Global,
     lines: &mut Lines<'a>,
@@ -84,7 +92,7 @@ pub(super) fn next_places<'a>(
     Ok(fitted(places))
 }
 
-// The place of the row at the front, which is read.
+// The place of the row at the front. The row is read and dropped, and its lines are taken.
 fn next_place<'a>(
     alloc: Global,
     lines: &mut Lines<'a>,
@@ -104,7 +112,7 @@ fn next_place<'a>(
     }
 }
 
-// The weight of the change that was found, if one was.
+// The weight of the change that was found, or None where none was.
 fn weight_of(outcome: &Outcome) -> Option<u64>
     ensures { result ≡ change_weight outcome.now }
 {

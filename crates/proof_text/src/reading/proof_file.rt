@@ -1,4 +1,4 @@
-//! A proof file that was read, but for the trees of its rows.
+//! A proof file that was read, but for the trees of its rows: what the audit looks at.
 ghost use Rattle.std.specs.Prelude.{◌≡◌, IfOk};
 
 use super::places::RowPlace;
@@ -10,8 +10,8 @@ use proof_grammar::Proof;
 use std::alloc::Global;
 use std::marker::Model;
 
-/// A proof whose rows stay in the bytes that it was read from: of each no more is held than its place. A contract sees
-/// the proof.
+/// A proof whose rows stay in the bytes that it was read from: of each no more is held than its place. A
+/// contract sees the proof.
 #[derive(Drop)]
 pub struct ProofFile<'a> {
     pub(super) version: u32,
@@ -77,14 +77,14 @@ impl<'a> ProofFile<'a> {
         self.verdicts.as_slice()
     }
 
-    /// The steps of the lines that all records share; none in version 1.
+    /// The steps of the table, whose lines all records share; none in version 1.
     pub fn table(&self) -> &[Step]
         ensures { result.now ≡ self.now.table }
     {
         self.table.as_slice()
     }
 
-    /// The places of the rows.
+    /// The places of the rows, one for each record, in order.
     pub fn rows(&self) -> &[RowPlace<'a>]
         ensures { result.now ≡ self.now.rows }
     {
@@ -98,7 +98,7 @@ impl<'a> ProofFile<'a> {
         self.claims.as_slice()
     }
 
-    /// The proof, each of whose rows is read once more.
+    /// The proof with all its trees, for which each row is read once more.
     pub fn into_proof(self, alloc: Global) -> Result<Proof, OutOfMemory>
         ensures { IfOk result (λ proof. proof ≡ self.entry) }
     {
@@ -125,7 +125,7 @@ impl<'a> ProofFile<'a> {
     }
 }
 
-// The rows at the places.
+// The rows at these places, each read once more.
 fn rows_at(alloc: Global, places: &[RowPlace]) -> Result<Sequence<RowProof>, OutOfMemory>
     ensures { IfOk result (λ rows. rows ≡ places.now) }
 {

@@ -1,8 +1,16 @@
-//! The lines of rows.
+//! The lines of a record in a proof file: its head, which says what was found of it, and the leaves of its
+//! tree.
+//!
+//! `shared` is the number of the lines of the rules, behind which those of a table are numbered. It is
+//! None where the file has no table. In contracts `row_in` and its like are what the grammar reads off the
+//! words of a line, and `row_reading` off lines. `ReadsAs` says that the call answers just that, or `Form`
+//! where that is nothing. `Reads` says the same of lines, and which are left behind it. Where the grammar
+//! reads nothing, the fault is at the first line that can't go on.
 ghost use Rattle.std.specs.Prelude.{◌≡◌, IfErr, IfOk};
 ghost use Rattle.proof_grammar.specs.Cuts.{split};
 ghost use Rattle.proof_grammar.specs.inner.Readings.{Reads, read_line};
-ghost use Rattle.proof_grammar.specs.inner.RowReading.{WeighsLong, behind_row, budget_in, change_in, clean_proof, contradictory_in, gift_fault_in, gift_in, row_in, row_reading, step_event_in, test_event_in};
+ghost use Rattle.proof_grammar.specs.inner.RowReading.{WeighsLong, behind_row, budget_in, change_in, clean_proof, contradictory_in};
+ghost use Rattle.proof_grammar.specs.inner.RowReading.{gift_fault_in, gift_in, row_in, row_reading, step_event_in, test_event_in};
 ghost use Rattle.proof_grammar.specs.Words.{ReadsAs, Takes};
 
 use super::parts::parts;
@@ -11,7 +19,7 @@ use foundation::Sequence;
 use proof_grammar::{Lines, ProofFault, RowHead, Stop, Words, settle};
 use std::alloc::Global;
 
-/// The row whose lines are at the front.
+/// The row whose lines are at the front: what was found of a record, with its tree.
 pub(super) fn next_row(
     alloc: Global,
     lines: &mut Lines,
@@ -19,14 +27,12 @@ pub(super) fn next_row(
 ) -> Result<RowProof, ProofFault>
     ensures { Reads result lines.old lines.new (row_reading shared lines.old.left) }
 {
-    let head = match next_head(alloc, lines) {
-        Ok(head) => head,
-        Err(fault) => return Err(fault),
-    };
+    let head = next_head(alloc, lines)?;
     behind_head(alloc, lines, shared, head)
 }
 
-// The row of a head, whose leaves are at the front.
+// The row whose `head` was read. As many leaves as the head says are at the front, and are read here. A
+// change's head holds one less than the weight, and one more than that fits 64 bits (`WeighsLong`).
 fn behind_head(
     alloc: Global,
     lines: &mut Lines,
@@ -80,7 +86,7 @@ fn behind_head(
     }
 }
 
-// The head of the next line.
+// The head of the row that the next line is.
 fn next_head(alloc: Global, lines: &mut Lines) -> Result<RowHead, ProofFault>
     ensures read { Reads result lines.old lines.new (read_line row_in lines.old.left) }
     ensures fits { IfOk result WeighsLong }
@@ -89,7 +95,8 @@ fn next_head(alloc: Global, lines: &mut Lines) -> Result<RowHead, ProofFault>
     settle(lines, head(alloc, line))
 }
 
-// The head of a line.
+// The head of a row, by the first word of the line. `Form` for a word that begins no head, or where the
+// rest is not of its form.
 fn head(alloc: Global, line: &[u8]) -> Result<RowHead, Stop>
     ensures read { ReadsAs result (row_in (split 32 line.now)) }
     ensures fits { IfOk result WeighsLong }
@@ -118,7 +125,8 @@ fn head(alloc: Global, line: &[u8]) -> Result<RowHead, Stop>
     }
 }
 
-// A change whose values were all given.
+// The head behind the word `change`, of a change whose values were all given: the weight, from 1, the
+// path, and how many leaves follow. The weight is held as one less. `Form` where the words are not these.
 fn change(alloc: Global, words: &mut Words) -> Result<RowHead, Stop>
     ensures read { ReadsAs result (change_in words.old) }
     ensures fits { IfOk result WeighsLong }
@@ -130,7 +138,8 @@ fn change(alloc: Global, words: &mut Words) -> Result<RowHead, Stop>
     Ok(RowHead::ChangeAt(less, path, count))
 }
 
-// A change of which a number left the range while values were given.
+// The head behind the word `gift`, of a change without values, since a number left the range while they
+// were given. The words are the weight, the path, which number that was, and how many leaves follow.
 fn gift(alloc: Global, words: &mut Words) -> Result<RowHead, Stop>
     ensures read { ReadsAs result (gift_in words.old) }
     ensures fits { IfOk result WeighsLong }
@@ -143,7 +152,8 @@ fn gift(alloc: Global, words: &mut Words) -> Result<RowHead, Stop>
     Ok(RowHead::GiftAt(weight, path, fault, count))
 }
 
-// The field and the line, or 0 and the rule.
+// Which number left the range while values were given. Words of a field and a line: that of a bound of the
+// field by the line. Words of 0 and a rule: that of the rule's test.
 fn gift_fault(words: &mut Words) -> Result<GiftFault, Stop>
     ensures { Takes result words.new (gift_fault_in words.old) }
 {
@@ -159,7 +169,8 @@ fn gift_fault(words: &mut Words) -> Result<GiftFault, Stop>
     }
 }
 
-// A search whose work ended.
+// The head behind the word `budget`, of a search that ended at its budget. The words are the path before
+// which it ended, and its work.
 fn budget(alloc: Global, words: &mut Words) -> Result<RowHead, Stop>
     ensures read { ReadsAs result (budget_in words.old) }
     ensures fits { IfOk result WeighsLong }
@@ -170,7 +181,8 @@ fn budget(alloc: Global, words: &mut Words) -> Result<RowHead, Stop>
     Ok(RowHead::BudgetAt(path, work))
 }
 
-// A number of an elimination that left the range.
+// The head behind the word `step`: a number left the range when two lines were combined. The words are the
+// path, the two lines, and the place of the number in the combination.
 fn step_event(alloc: Global, words: &mut Words) -> Result<RowHead, Stop>
     ensures read { ReadsAs result (step_event_in words.old) }
     ensures fits { IfOk result WeighsLong }
@@ -190,7 +202,8 @@ fn step_event(alloc: Global, words: &mut Words) -> Result<RowHead, Stop>
     ))
 }
 
-// A number of a test that left the range.
+// The head behind the word `test`: a number left the range when a line was tested at the record. The words
+// are the path, the line, and the field.
 fn test_event(alloc: Global, words: &mut Words) -> Result<RowHead, Stop>
     ensures read { ReadsAs result (test_event_in words.old) }
     ensures fits { IfOk result WeighsLong }
@@ -202,7 +215,7 @@ fn test_event(alloc: Global, words: &mut Words) -> Result<RowHead, Stop>
     Ok(RowHead::EventAt(path, Event::Test { line, field }))
 }
 
-// A record that no change corrects.
+// The head behind the word `contradictory`, of a record that no change corrects: how many leaves follow.
 fn contradictory(words: &mut Words) -> Result<RowHead, Stop>
     ensures read { ReadsAs result (contradictory_in words.old) }
     ensures fits { IfOk result WeighsLong }
@@ -212,7 +225,8 @@ fn contradictory(words: &mut Words) -> Result<RowHead, Stop>
     Ok(RowHead::ContradictoryAt(count))
 }
 
-// A clean row, held as the change of nothing with its one leaf.
+// A clean row, held as a change of weight 0, with the empty path and a tree of one leaf. Refused for want
+// of memory alone.
 fn clean_row(alloc: Global) -> Result<RowProof, ProofFault>
     ensures clean { IfOk result (λ row. row ≡ clean_proof) }
     ensures refused { IfErr result (λ fault. fault ≡ ProofFault.OutOfMemory) }

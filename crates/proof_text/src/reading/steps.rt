@@ -1,6 +1,13 @@
-//! The words of steps.
+//! The lines of steps, of a table and of leaves.
+//!
+//! `shared` is the number of the lines of the rules, behind which those of a table are numbered. It is
+//! None where the file has no table. In contracts `step_in` and its like are what the grammar reads off
+//! the words of a line. `ReadsAs` says that the call answers just that, or `Form` where that is nothing.
+//! `Reads` says the same of lines, and which are left behind it. Where the grammar reads nothing, the
+//! fault is at the first line that can't go on.
 ghost use Rattle.proof_grammar.specs.Cuts.{split};
-ghost use Rattle.proof_grammar.specs.inner.StepReading.{combine_in, cover_in, fail_in, few_given_in, fix_in, given_in, leaf_step_in, shared_in, shared_step_in, step_in, table_step_in};
+ghost use Rattle.proof_grammar.specs.inner.StepReading.{combine_in, cover_in, fail_in, few_given_in, fix_in, given_in, leaf_step_in};
+ghost use Rattle.proof_grammar.specs.inner.StepReading.{shared_in, shared_step_in, step_in, table_step_in};
 ghost use Rattle.proof_grammar.specs.inner.Readings.{Reads, read_line, read_many};
 ghost use Rattle.proof_grammar.specs.Words.{ReadsAs};
 
@@ -15,13 +22,15 @@ use std::alloc::Global;
 impl Part for Step {
     ghost reading = { λ shared. read_line (leaf_step_in shared) };
 
+    // The step whose line is at the front.
     fn read(alloc: Global, lines: &mut Lines, shared: Option<u64>) -> Result<Step, ProofFault> {
         let line = lines.next()?;
         settle(lines, leaf_step(alloc, line, shared))
     }
 }
 
-/// As many steps of a table as are asked for, one after another.
+/// `count` steps of a table, one after another. They are read apart from those of leaves, since each of
+/// them gives a line. The first fault ends the call.
 pub(super) fn table_steps(
     alloc: Global,
     lines: &mut Lines,
@@ -42,7 +51,7 @@ pub(super) fn table_steps(
     Ok(fitted(steps))
 }
 
-// The next step of a table.
+// The step of the next line of a table.
 fn next_table_step(lines: &mut Lines) -> Result<Step, ProofFault>
     ensures { Reads result lines.old lines.new (read_line table_step_in lines.old.left) }
 {
@@ -50,7 +59,7 @@ fn next_table_step(lines: &mut Lines) -> Result<Step, ProofFault>
     settle(lines, table_step(line))
 }
 
-// The step of a line of a table.
+// The step of a line of a table: `given` or `combine`. `Form` for any other word.
 fn table_step(line: &[u8]) -> Result<Step, Stop>
     ensures { ReadsAs result (table_step_in (split 32 line.now)) }
 {
@@ -59,7 +68,7 @@ fn table_step(line: &[u8]) -> Result<Step, Stop>
         return Err(Stop::Form);
     };
     if kind == b"given".as_slice() {
-        given(&mut words)
+        given_line(&mut words)
     } else if kind == b"combine".as_slice() {
         combine(&mut words)
     } else {
@@ -67,7 +76,8 @@ fn table_step(line: &[u8]) -> Result<Step, Stop>
     }
 }
 
-// The step of a line, where lines of a table stand behind this many given ones, if there is a table.
+// The step of a line behind a leaf or a verdict. The word `shared` may begin it only where there is a
+// table, which is where `shared` is Some.
 fn leaf_step(alloc: Global, line: &[u8], shared: Option<u64>) -> Result<Step, Stop>
     ensures { ReadsAs result (leaf_step_in shared (split 32 line.now)) }
 {
@@ -77,7 +87,8 @@ fn leaf_step(alloc: Global, line: &[u8], shared: Option<u64>) -> Result<Step, St
     }
 }
 
-// The step of a line, where lines of a table stand behind this many given ones.
+// The step of a line behind a leaf, in a file with a table behind `count` lines of the rules. `Form` for a
+// word that begins no step.
 fn shared_step(alloc: Global, line: &[u8], count: u64) -> Result<Step, Stop>
     ensures { ReadsAs result (shared_step_in count (split 32 line.now)) }
 {
@@ -86,7 +97,7 @@ fn shared_step(alloc: Global, line: &[u8], count: u64) -> Result<Step, Stop>
         return Err(Stop::Form);
     };
     if kind == b"given".as_slice() {
-        few_given(&mut words, count)
+        given_of_rules(&mut words, count)
     } else if kind == b"shared".as_slice() {
         shared_line(&mut words, count)
     } else if kind == b"combine".as_slice() {
@@ -102,8 +113,9 @@ fn shared_step(alloc: Global, line: &[u8], count: u64) -> Result<Step, Stop>
     }
 }
 
-// A given line that is not of the table.
-fn few_given(words: &mut Words, count: u64) -> Result<Step, Stop>
+// A given line of the rules. `Form` where it is past their `count`, since a line of the table is named by
+// `shared`.
+fn given_of_rules(words: &mut Words, count: u64) -> Result<Step, Stop>
     ensures { ReadsAs result (few_given_in count words.old) }
 {
     let place = words.named_long()?;
@@ -114,7 +126,8 @@ fn few_given(words: &mut Words, count: u64) -> Result<Step, Stop>
     Ok(Step::Given(place))
 }
 
-// A line of the table.
+// The step behind the word `shared`: a line of the table. It is held as the given line that is numbered
+// behind the `count` lines of the rules. `Form` where that number passes 64 bits.
 fn shared_line(words: &mut Words, count: u64) -> Result<Step, Stop>
     ensures { ReadsAs result (shared_in count words.old) }
 {
@@ -126,7 +139,7 @@ fn shared_line(words: &mut Words, count: u64) -> Result<Step, Stop>
     Ok(Step::Given(name))
 }
 
-// The step of a line.
+// The step of a line, in a file without a table or behind a verdict. `Form` for a word that begins no step.
 fn step(alloc: Global, line: &[u8]) -> Result<Step, Stop>
     ensures { ReadsAs result (step_in (split 32 line.now)) }
 {
@@ -135,7 +148,7 @@ fn step(alloc: Global, line: &[u8]) -> Result<Step, Stop>
         return Err(Stop::Form);
     };
     if kind == b"given".as_slice() {
-        given(&mut words)
+        given_line(&mut words)
     } else if kind == b"combine".as_slice() {
         combine(&mut words)
     } else if kind == b"fail".as_slice() {
@@ -149,8 +162,8 @@ fn step(alloc: Global, line: &[u8]) -> Result<Step, Stop>
     }
 }
 
-// A given line.
-fn given(words: &mut Words) -> Result<Step, Stop>
+// The step behind the word `given`: the name of a given line, and nothing more.
+fn given_line(words: &mut Words) -> Result<Step, Stop>
     ensures { ReadsAs result (given_in words.old) }
 {
     let place = words.named_long()?;
@@ -158,7 +171,8 @@ fn given(words: &mut Words) -> Result<Step, Stop>
     Ok(Step::Given(place))
 }
 
-// A combination of two lines.
+// The step behind the word `combine`, whose words are a, m, b, n and g. It gives m times the line of step
+// a and n times that of step b, added and divided by g.
 fn combine(words: &mut Words) -> Result<Step, Stop>
     ensures { ReadsAs result (combine_in words.old) }
 {
@@ -171,7 +185,7 @@ fn combine(words: &mut Words) -> Result<Step, Stop>
     Ok(Step::Combine { a, m, b, n, g })
 }
 
-// A line that fails.
+// The step behind the word `fail`: the name of a step whose line fails at the record, and becomes a box.
 fn fail(words: &mut Words) -> Result<Step, Stop>
     ensures { ReadsAs result (fail_in words.old) }
 {
@@ -180,7 +194,7 @@ fn fail(words: &mut Words) -> Result<Step, Stop>
     Ok(Step::Fail(place))
 }
 
-// A field that is covered by boxes.
+// The step behind the word `cover`: a field, and the steps whose boxes cover it, to the end of the line.
 fn cover(alloc: Global, words: &mut Words) -> Result<Step, Stop>
     ensures { ReadsAs result (cover_in words.old) }
 {
@@ -189,7 +203,7 @@ fn cover(alloc: Global, words: &mut Words) -> Result<Step, Stop>
     Ok(Step::Cover { field, parts })
 }
 
-// A field whose code is fixed.
+// The step behind the word `fix`: a kept field, and the step whose box has the record's code there.
 fn fix(words: &mut Words) -> Result<Step, Stop>
     ensures { ReadsAs result (fix_in words.old) }
 {

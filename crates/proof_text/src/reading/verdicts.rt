@@ -1,4 +1,10 @@
-//! The lines of verdicts.
+//! The lines of verdicts: for each line of the rules `keep`, or `drop` with the steps that refute its
+//! negation.
+//!
+//! In contracts `verdict_in` and its like are what the grammar reads off the words of a line, and
+//! `verdict_reading` off lines. `ReadsAs` says that the call answers just that, or `Form` where that is
+//! nothing. `Reads` says the same of lines, and which are left behind it. Where the grammar reads nothing,
+//! the fault is at the first line that can't go on.
 ghost use Rattle.proof_grammar.specs.Cuts.{split};
 ghost use Rattle.proof_grammar.specs.inner.FileReading.{behind_verdict, verdict_in, verdict_reading};
 ghost use Rattle.proof_grammar.specs.inner.Readings.{Reads, read_line};
@@ -13,20 +19,19 @@ use std::alloc::Global;
 impl Part for Option<Sequence<Step>> {
     ghost reading = { λ shared. verdict_reading };
 
+    // The verdict whose lines are at the front: its head, and its steps where a line is dropped.
     fn read(
         alloc: Global,
         lines: &mut Lines,
         _shared: Option<u64>,
     ) -> Result<Option<Sequence<Step>>, ProofFault> {
-        let head = match next_head(lines) {
-            Ok(head) => head,
-            Err(fault) => return Err(fault),
-        };
+        let head = next_head(lines)?;
         behind_head(alloc, lines, head)
     }
 }
 
-// The verdict of a head, whose steps are at the front.
+// The verdict whose `head` was read. It says how many steps are at the front, which are read here, or is
+// None for a line that is kept. The steps of verdicts name no line of a table.
 fn behind_head(
     alloc: Global,
     lines: &mut Lines,
@@ -51,7 +56,8 @@ fn next_head(lines: &mut Lines) -> Result<Option<u64>, ProofFault>
     settle(lines, head(line))
 }
 
-// The head of a line.
+// The head of a verdict: how many steps follow `drop`, or None for `keep`, a line that is kept. `Form` for
+// any other line.
 fn head(line: &[u8]) -> Result<Option<u64>, Stop>
     ensures { ReadsAs result (verdict_in (split 32 line.now)) }
 {

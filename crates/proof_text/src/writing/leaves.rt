@@ -1,4 +1,10 @@
-//! The lines of leaves.
+//! The lines of leaves, appended.
+//!
+//! `shared` is the number of the lines of the rules, behind which those of a table are numbered. It is None
+//! where the file has no table.
+//!
+//! In contracts, `IsSizedLeaf` and its like say that each number of the text fits its type, and each list
+//! is counted by 64 bits.
 ghost use Rattle.std.specs.Prelude.{◌≡◌, ◌∷◌, ◌++◌, length, OnOk};
 ghost use Rattle.std.specs.Fmt.{decimal};
 ghost use Rattle.std.specs.List.{flat_map};
@@ -11,7 +17,7 @@ use super::words::{write_count, write_path};
 use bound_cert::{Leaf, LeafWhy};
 use foundation::OutOfMemory;
 
-/// Appends the count of the leaves, the last word of its line, and their lines.
+/// Appends the count of the leaves, which ends the line of a head, and their lines.
 pub(super) fn write_leaves(
     text: &mut Vec<u8>,
     shared: Option<u64>,
@@ -28,7 +34,7 @@ pub(super) fn write_leaves(
     Ok(())
 }
 
-// Appends the lines of a leaf.
+// Appends the lines of a leaf: its head, and its steps where it has some.
 fn write_leaf(text: &mut Vec<u8>, shared: Option<u64>, leaf: &Leaf) -> Result<(), OutOfMemory>
     ensures text { OnOk result (text.new.items ≡ text.old.items ++ lines_text (leaf_lines_in shared leaf.now)) }
     ensures sized { OnOk result (IsSizedLeaf leaf.now) }

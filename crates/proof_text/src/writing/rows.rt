@@ -1,4 +1,10 @@
-//! The lines of rows.
+//! The lines of a record, appended: its head, which says what was found of it, and the leaves of its tree.
+//!
+//! `shared` is the number of the lines of the rules, behind which those of a table are numbered. It is None
+//! where the file has no table.
+//!
+//! In contracts, `IsSizedRow` and its like say that each number of the text fits its type, and each list
+//! is counted by 64 bits.
 ghost use Rattle.std.specs.Prelude.{◌≡◌, ◌++◌, OnOk};
 ghost use Rattle.proof_grammar.specs.Limits.{IsEvent, IsGift, IsLong};
 ghost use Rattle.proof_grammar.specs.ProofLines.{change_lines_in, event_line, line_text, lines_text, row_lines_in};
@@ -10,7 +16,7 @@ use super::words::{write_named, write_number, write_path, write_place};
 use bound_cert::{Cert, Event, GiftFault, Outcome, Path, RowProof};
 use foundation::OutOfMemory;
 
-/// Appends the lines of a row.
+/// Appends the lines of a row: its head, and its leaves where it has a tree.
 pub(super) fn write_row(
     text: &mut Vec<u8>,
     shared: Option<u64>,
@@ -39,7 +45,8 @@ pub(super) fn write_row(
     }
 }
 
-// Appends the lines of a change whose values were all given.
+// Appends the lines of a change whose values were all given. One of weight 0 is a clean record, written as
+// `clean` alone: its path and its one leaf say nothing.
 fn write_change(
     text: &mut Vec<u8>,
     shared: Option<u64>,
@@ -60,7 +67,8 @@ fn write_change(
     write_leaves(text, shared, cert.leaves.as_slice())
 }
 
-// Appends the lines of a change of which a number left the range while values were given.
+// Appends the lines of a change without values: `fault` says which number left the range while they were
+// given.
 fn write_gift(
     text: &mut Vec<u8>,
     shared: Option<u64>,
@@ -88,7 +96,8 @@ fn write_gift(
     write_leaves(text, shared, cert.leaves.as_slice())
 }
 
-// Appends the line of a number that left the range.
+// Appends the line of a search that ended at this path, where a number left the range. It begins with
+// `step` where two lines were combined, and with `test` where a line was tested.
 fn write_event(text: &mut Vec<u8>, path: &Path, event: &Event) -> Result<(), OutOfMemory>
     ensures text { OnOk result (text.new.items ≡ text.old.items ++ line_text (event_line path.now event.now)) }
     ensures sized { OnOk result (IsEvent event.now) }

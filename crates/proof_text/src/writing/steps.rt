@@ -1,4 +1,10 @@
-//! The lines of steps.
+//! The lines of steps, appended.
+//!
+//! `shared` is the number of the lines of the rules, behind which those of a table are numbered. It is None
+//! where the file has no table.
+//!
+//! In contracts, `IsSizedStep` and its like say that each number of the text fits its type, and each list
+//! is counted by 64 bits. `StartsWith` says that the text begins as before.
 ghost use Rattle.std.specs.Prelude.{◌≡◌, ◌∷◌, ◌++◌, [], Some, codes, length, map, OnErr, OnOk};
 ghost use Rattle.std.specs.Fmt.{decimal, signed_decimal};
 ghost use Rattle.std.specs.Io.{StartsWith};
@@ -13,7 +19,7 @@ use super::words::{write_all_named, write_count, write_named, write_signed};
 use derivation::Step;
 use foundation::OutOfMemory;
 
-/// Appends the count of the steps, the last word of its line, and their lines.
+/// Appends the count of the steps, which ends the line of a head, and their lines.
 pub(super) fn write_steps(
     text: &mut Vec<u8>,
     shared: Option<u64>,
@@ -30,7 +36,7 @@ pub(super) fn write_steps(
     Ok(())
 }
 
-// Appends the words of a step, where lines of a table stand behind this many given ones, if there is a table.
+// Appends the words of a step, without a line feed, in a file with a table or without one.
 fn write_step_in(text: &mut Vec<u8>, shared: Option<u64>, step: &Step) -> Result<(), OutOfMemory>
     ensures text { OnOk result (text.new.items ≡ text.old.items ++ words_text (step_line_in shared step.now)) }
     ensures sized { OnOk result (IsSizedStep step.now) }
@@ -41,7 +47,7 @@ fn write_step_in(text: &mut Vec<u8>, shared: Option<u64>, step: &Step) -> Result
     }
 }
 
-// Appends the words of a step, where lines of a table stand behind this many given ones.
+// Appends the words of a step, in a file whose table stands behind `count` lines of the rules.
 fn write_beside(text: &mut Vec<u8>, count: u64, step: &Step) -> Result<(), OutOfMemory>
     ensures text { OnOk result (text.new.items ≡ text.old.items ++ words_text (step_line_in (Some count) step.now)) }
     ensures sized { OnOk result (IsSizedStep step.now) }
@@ -54,7 +60,8 @@ fn write_beside(text: &mut Vec<u8>, count: u64, step: &Step) -> Result<(), OutOf
     }
 }
 
-// Appends the words of a given line, where lines of a table stand behind this many others.
+// Appends the words of the given line at `place`: `given` for one of the `count` lines of the rules,
+// `shared` for one of the table.
 fn write_given(text: &mut Vec<u8>, count: u64, place: u64) -> Result<(), OutOfMemory>
     ensures text { OnOk result (text.new.items ≡ text.old.items ++ words_text (given_words (Some count) place)) }
     ensures sized { OnOk result (IsLong place) }
@@ -69,7 +76,8 @@ fn write_given(text: &mut Vec<u8>, count: u64, place: u64) -> Result<(), OutOfMe
     Ok(())
 }
 
-/// Appends the words of a step, as in a proof file without a table. Where memory is refused, the text is as before.
+/// Appends the words of a step, as in a proof file without a table. Where memory is refused, the text is as
+/// before.
 pub fn write_step(text: &mut Vec<u8>, step: &Step) -> Result<(), OutOfMemory>
     ensures text { OnOk result (text.new.items ≡ text.old.items ++ words_text (step_line step.now)) }
     ensures sized { OnOk result (IsSizedStep step.now) }
@@ -83,8 +91,8 @@ pub fn write_step(text: &mut Vec<u8>, step: &Step) -> Result<(), OutOfMemory>
     written
 }
 
-// Appends the words of a step, as in a proof file without a table. Where memory is refused, some may stand behind what
-// stood before.
+// Appends the words of a step, as in a proof file without a table. Where memory is refused, some may stand
+// behind what stood before.
 fn append_step(text: &mut Vec<u8>, step: &Step) -> Result<(), OutOfMemory>
     ensures text { OnOk result (text.new.items ≡ text.old.items ++ words_text (step_line step.now)) }
     ensures sized { OnOk result (IsSizedStep step.now) }
@@ -109,7 +117,7 @@ fn append_step(text: &mut Vec<u8>, step: &Step) -> Result<(), OutOfMemory>
     }
 }
 
-// Appends the words of a step that covers a field.
+// Appends the words of a step that covers a field by the boxes of the steps `parts`.
 fn write_cover(text: &mut Vec<u8>, field: u32, parts: &[u64]) -> Result<(), OutOfMemory>
     ensures text { OnOk result (text.new.items ≡ text.old.items ++ words_text (codes "cover" ∷ named field ∷ map named parts.now)) }
     ensures sized { OnOk result (IsSizedStep (step.Cover field parts.now)) }
@@ -121,7 +129,8 @@ fn write_cover(text: &mut Vec<u8>, field: u32, parts: &[u64]) -> Result<(), OutO
     Ok(())
 }
 
-// Appends the words of a step that combines two lines.
+// Appends the words of a combination: m times the line of step a and n times that of step b, added and
+// divided by g.
 fn write_combine(
     text: &mut Vec<u8>,
     a: u64,
@@ -141,7 +150,8 @@ fn write_combine(
     Ok(())
 }
 
-// Appends the name of a step and the factor that its line is taken with.
+// Appends the name of the step at `place`, from 1 in the text, and the `factor` by which its line is
+// multiplied.
 fn write_multiple(text: &mut Vec<u8>, place: u64, factor: i128) -> Result<(), OutOfMemory>
     ensures text { OnOk result (text.new.items ≡ text.old.items ++ (32 ∷ named place) ++ (32 ∷ signed_decimal factor)) }
     ensures sized { OnOk result (IsLong place × IsWide factor) }

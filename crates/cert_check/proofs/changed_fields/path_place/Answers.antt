@@ -8,7 +8,8 @@ use Rattle.cert_check.proofs.changed_fields.path_place.Goals as goal
 pub loop-place-preserved : goal.loop-place-preserved
 loop-place-preserved c =
     let fields = c.args.survey.now.fields in
-    place-more (path_order fields) c.loop-place.place c.args.field _ c.loop-place.invariant (omega (arith, c.loop-place-test.true, order-length fields, ap (λ (fs : List Field). length fs) c.fields-count.ensures.fields))
+    place-more (path_order fields) c.loop-place.place c.args.field _ c.loop-place.invariant
+    (omega (arith, c.loop-place-test.true, order-length fields, ap (λ (fs : List Field). length fs) c.fields-count.ensures.fields))
     (λ same. c.if-path_field-field.false (c.path_field.ensures.field ∙ same))
 
 pub returns : goal.returns
@@ -16,4 +17,5 @@ returns c =
     let fields = c.args.survey.now.fields in
     let count = ap (λ (fs : List Field). length fs) c.fields-count.ensures.fields in
     let same : length c.fields-count.result.now ≡ c.loop-place.place = omega (arith, c.loop-place-test.false, c.loop-place.auto.place-end) in
-    same ∙ place-ended (path_order fields) c.loop-place.place c.args.field _ c.loop-place.invariant (omega (arith, c.loop-place-test.false, order-length fields, count))
+    same ∙ place-ended (path_order fields) c.loop-place.place c.args.field _ c.loop-place.invariant
+    (omega (arith, c.loop-place-test.false, order-length fields, count))

@@ -5,7 +5,8 @@ use Rattle.std.proofs.lemmas.Map.Keys.{IsDistinct-from_apart, apart_from_distinc
 use Rattle.cert_check.proofs.claim_form.are_distinct.Goals as goal
 
 -- a donor that stands before is not distinct
-twice : (ranking : List ℕ) (place k : ℕ) → place < length ranking → k < length (take place ranking) → ((d : ℕ) → nat_eq (get_or (take place ranking) k d) (get_or ranking place 0) ≡ true) → ¬ IsDistinct nat_eq ranking
+twice : (ranking : List ℕ) (place k : ℕ) → place < length ranking → k < length (take place ranking)
+    → ((d : ℕ) → nat_eq (get_or (take place ranking) k d) (get_or ranking place 0) ≡ true) → ¬ IsDistinct nat_eq ranking
 twice ranking place k below within same once =
     let long = length-take-le place ranking (omega (arith, below)) in
     let under : k < place = omega (arith, within, long) in
@@ -19,6 +20,7 @@ returns-then-contains c =
 
 pub returns : goal.returns
 returns c = (
-  λ yes. IsDistinct-from_apart nat_eq c.args.ranking.now (λ j k d before below. c.loop-place.invariant j k d before (omega (arith, below, c.loop-place-test.false))),
+  λ yes. IsDistinct-from_apart nat_eq c.args.ranking.now (λ j k d before below. c.loop-place.invariant j k d before
+      (omega (arith, below, c.loop-place-test.false))),
   λ once. refl,
 )

@@ -7,4 +7,5 @@ use Rattle.cert_check.specs.inner.ClaimChecks.{AreCleanFlags}
 use Rattle.cert_check.proofs.claim_form.formed_count.Given as goal
 
 abbrev pub invariant-loop-place : goal.invariant-loop-place
-invariant-loop-place l = (survey : SurveyParts) (rows : List (List Value)) → AreCleanFlags survey rows l.clean → AllByRecursion (IsClaim survey rows l.said) (take l.place l.said.claims)
+invariant-loop-place l = (survey : SurveyParts) (rows : List (List Value)) → AreCleanFlags survey rows l.clean
+    → AllByRecursion (IsClaim survey rows l.said) (take l.place l.said.claims)

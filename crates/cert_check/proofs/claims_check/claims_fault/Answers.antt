@@ -18,4 +18,10 @@ all_claim-requires c =
     let rows = c.args.records.now.rows in
     let p = c.args.said.now in
     let right = rw c.in_default.is at c.in_ok-place.ensures in
-    record { there = λ k d below. omega (arith, (claims-within c.args.survey.now rows p (length rows) p.claims refl c.requires.one_each right.each k d below).0, c.requires.one_each) }
+    record {
+      there = λ k d below. omega (
+        arith,
+        (claims-within c.args.survey.now rows p (length rows) p.claims refl c.requires.one_each right.each k d below).0,
+        c.requires.one_each,
+      );
+    }

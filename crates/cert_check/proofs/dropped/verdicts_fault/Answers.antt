@@ -22,12 +22,15 @@ returns-in-Some-clause-within c = within (goal.at.returns-in-Some-clause-within 
 
 pub returns-in-Some-clause-found : goal.returns-in-Some-clause-found
 returns-in-Some-clause-found c =
-    found-some c.args.survey.now c.args.verdicts.now c.loop-place.place c.loop-place.offset c.loop-place.left.items c.loop-place.invariant.0 c.loop-place.lines.items _ (c.loop-place.invariant.2 ∙ c.requires.lines) c.in_ok-row.ensures.values
-    (c.requires.each ∙ ap length c.requires.lines) c.loop-place-test.true c.index-verdicts-place.result c.index-verdicts-place.is c.in_ok-behind.field-0 c.in_ok-behind.ensures.found c.in-Some.behind c.in-Some.is
+    found-some c.args.survey.now c.args.verdicts.now c.loop-place.place c.loop-place.offset c.loop-place.left.items c.loop-place.invariant.0
+    c.loop-place.lines.items _ (c.loop-place.invariant.2 ∙ c.requires.lines) c.in_ok-row.ensures.values
+    (c.requires.each ∙ ap length c.requires.lines) c.loop-place-test.true c.index-verdicts-place.result c.index-verdicts-place.is c.in_ok-behind.field-0
+    c.in_ok-behind.ensures.found c.in-Some.behind c.in-Some.is
 
 pub verdict_line_count-offset-requires : goal.verdict_line_count-offset-requires
 verdict_line_count-offset-requires c =
-    let fits = count-fits verdict_lines c.args.verdicts.now c.loop-place.place c.index-verdicts-place.result c.loop-place-test.true c.index-verdicts-place.is in omega (arith, fits, c.requires.few)
+    let fits = count-fits verdict_lines c.args.verdicts.now c.loop-place.place c.index-verdicts-place.result c.loop-place-test.true c.index-verdicts-place.is in
+    omega (arith, fits, c.requires.few)
 
 pub overflow_add-offset : goal.overflow_add-offset
 overflow_add-offset c =
@@ -36,10 +39,14 @@ overflow_add-offset c =
 
 pub loop-place-preserved : goal.loop-place-preserved
 loop-place-preserved c =
-    let more = count-more verdict_lines c.args.verdicts.now c.loop-place.place c.index-verdicts-place.result c.loop-place-test.true c.index-verdicts-place.is in (
-      found-none c.args.survey.now c.args.verdicts.now c.loop-place.place c.loop-place.offset c.loop-place.left.items c.loop-place.invariant.0 c.loop-place.lines.items _ (c.loop-place.invariant.2 ∙ c.requires.lines) c.in_ok-row.ensures.values
-          (c.requires.each ∙ ap length c.requires.lines) c.loop-place-test.true c.index-verdicts-place.result c.index-verdicts-place.is c.in_ok-behind.field-0 c.in_ok-behind.ensures.found (c.loop-place.place + 1)
-          (c.loop-place.offset + c.verdict_line_count-offset.result) (slice_set c.verdict_fault.new.left.items c.loop-place.place true) c.in_default.is (omega arith) (ap (λ n. c.loop-place.offset + n) c.verdict_line_count-offset.ensures)
+    let more = count-more verdict_lines c.args.verdicts.now c.loop-place.place c.index-verdicts-place.result
+    c.loop-place-test.true c.index-verdicts-place.is in (
+      found-none c.args.survey.now c.args.verdicts.now c.loop-place.place c.loop-place.offset c.loop-place.left.items c.loop-place.invariant.0
+          c.loop-place.lines.items _ (c.loop-place.invariant.2 ∙ c.requires.lines) c.in_ok-row.ensures.values
+          (c.requires.each ∙ ap length c.requires.lines) c.loop-place-test.true c.index-verdicts-place.result c.index-verdicts-place.is c.in_ok-behind.field-0
+          c.in_ok-behind.ensures.found (c.loop-place.place + 1)
+          (c.loop-place.offset + c.verdict_line_count-offset.result) (slice_set c.verdict_fault.new.left.items c.loop-place.place true) c.in_default.is
+          (omega arith) (ap (λ n. c.loop-place.offset + n) c.verdict_line_count-offset.ensures)
           (ap (λ bs. slice_set bs c.loop-place.place true) c.in_ok-behind.ensures.left),
       omega (arith, more, c.verdict_line_count-offset.ensures, c.loop-place.invariant.1),
       c.in_ok-behind.ensures.lines ∙ c.loop-place.invariant.2,

@@ -6,4 +6,5 @@ use Rattle.cert_check.proofs.dropped.verdicts_fault.Given as goal
 
 abbrev pub invariant-loop-place : goal.invariant-loop-place
 invariant-loop-place l =
-    IsTold l.survey l.verdicts l.place l.offset l.left.items × (l.offset ≡ length (flat_map verdict_lines (take l.place l.verdicts))) × (l.lines.items ≡ l.initial.lines.items) × (length l.left.items ≡ length l.verdicts)
+    IsTold l.survey l.verdicts l.place l.offset l.left.items × (l.offset ≡ length (flat_map verdict_lines (take l.place l.verdicts)))
+    × (l.lines.items ≡ l.initial.lines.items) × (length l.left.items ≡ length l.verdicts)

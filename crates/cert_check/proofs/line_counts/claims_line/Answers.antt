@@ -10,4 +10,11 @@ rows_line_count-requires c = rw c.rows.ensures (omega (arith, all-lines c.args.p
 
 pub overflow_add-result-2 : goal.overflow_add-result-2
 overflow_add-result-2 c =
-    omega (arith, all-lines c.args.proof.now, c.requires, c.records_line.ensures, c.in_ok-rows_line_count.ensures, ap (λ (rows : List RowProof). length (flat_map row_lines rows)) c.rows.ensures)
+    omega (
+      arith,
+      all-lines c.args.proof.now,
+      c.requires,
+      c.records_line.ensures,
+      c.in_ok-rows_line_count.ensures,
+      ap (λ (rows : List RowProof). length (flat_map row_lines rows)) c.rows.ensures,
+    )

@@ -7,11 +7,13 @@ not_both b f t = cc (sym f ∙ t)
 
 pub returns-in-Ok-clause-some : goal.returns-in-Ok-clause-some
 returns-in-Ok-clause-some c =
-    fits-some c.args.header.now c.args.bytes.now c.args.count _ c.in_ok-no_fields.ensures c.if_fits.result c.in-Ok.sheet c.if_fits.ensures.some c.in-Ok.ensures.sheet
+    fits-some c.args.header.now c.args.bytes.now c.args.count _ c.in_ok-no_fields.ensures c.if_fits.result c.in-Ok.sheet c.if_fits.ensures.some
+    c.in-Ok.ensures.sheet
 
 pub returns-in-Ok-clause-none : goal.returns-in-Ok-clause-none
 returns-in-Ok-clause-none c =
-    fits-none c.args.header.now c.args.bytes.now c.args.count c.requires _ c.in_ok-no_fields.ensures c.if_fits.result c.in-Ok.sheet c.if_fits.ensures.none c.in-Ok.ensures.only
+    fits-none c.args.header.now c.args.bytes.now c.args.count c.requires _ c.in_ok-no_fields.ensures c.if_fits.result c.in-Ok.sheet c.if_fits.ensures.none
+    c.in-Ok.ensures.only
 
 pub returns : goal.returns
 returns c = record {

@@ -14,8 +14,10 @@ returns-then-changes_some c =
     let path = c.args.path.now in
     let texts = c.in-Some.texts.now in
     let is : option_map (λ t. t.now) files.texts ≡ Some texts = ap (option_map (λ t. t.now)) c.in-Some.is in
-    IfOk-weaker c.gives_clean.result (λ b. Decides b (GivesClean checking path texts files.row.now)) (λ b. Decides b (AreReleasedTexts (rules_in checking) (files_in files) path))
-    (λ b decides. Decides-like b (gives-released checking files path texts is (sym c.are_same.ensures ∙ c.if-not-are_same.false)) (released-gives checking files path texts is) decides) c.gives_clean.ensures
+    IfOk-weaker c.gives_clean.result (λ b. Decides b (GivesClean checking path texts files.row.now))
+    (λ b. Decides b (AreReleasedTexts (rules_in checking) (files_in files) path))
+    (λ b decides. Decides-like b (gives-released checking files path texts is (sym c.are_same.ensures ∙ c.if-not-are_same.false))
+    (released-gives checking files path texts is) decides) c.gives_clean.ensures
 
 pub returns-else-changes_some : goal.returns-else-changes_some
 returns-else-changes_some c =
@@ -25,6 +27,8 @@ returns-else-changes_some c =
     let texts = c.in-Some.texts.now in
     let none = rw c.changes_some.ensures at c.if-changes_some.false in
     let is : option_map (λ t. t.now) files.texts ≡ Some texts = ap (option_map (λ t. t.now)) c.in-Some.is in (
-      λ yes. gives-released checking files path texts is (sym c.are_same.ensures ∙ c.if-not-are_same.false) (clean-gives checking path texts files.row.now c.requires.files.row none (sym c.is_clean.ensures ∙ yes)),
-      λ released. c.is_clean.ensures ∙ gives-clean checking path texts files.row.now c.requires.files.row none (released-gives checking files path texts is released),
+      λ yes. gives-released checking files path texts is (sym c.are_same.ensures ∙ c.if-not-are_same.false)
+          (clean-gives checking path texts files.row.now c.requires.files.row none (sym c.is_clean.ensures ∙ yes)),
+      λ released. c.is_clean.ensures ∙ gives-clean checking path texts files.row.now c.requires.files.row none
+          (released-gives checking files path texts is released),
     )

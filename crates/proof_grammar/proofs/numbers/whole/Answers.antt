@@ -15,19 +15,22 @@ use Rattle.proof_grammar.proofs.numbers.whole.Goals as goal
 use Rattle.proof_grammar.proofs.numbers.whole.Goals.{else-number-via-then-number+else-eq, else-number-via-else-number}
 
 pub returns-in_default : goal.returns-in_default
-returns-in_default c = whole_said-none c.args.word.now (λ z fits e. c.in_default.ensures.cases.0 (IsUtf8-from_ascii c.args.word.now (subst IsAscii e (signed_decimal-ascii z fits))))
+returns-in_default c = whole_said-none c.args.word.now (λ z fits e. c.in_default.ensures.cases.0
+    (IsUtf8-from_ascii c.args.word.now (subst IsAscii e (signed_decimal-ascii z fits))))
 
 pub returns-in_default-parse : goal.returns-in_default-parse
 returns-in_default-parse c =
     let text = c.in-Ok.ensures.cases.0 in
-    whole_said-none c.args.word.now (λ z fits e. c.in_default-parse.not-Ok z (signed_decimal-read z c.in-Ok.text.now c.parse.result fits (e ∙ sym text) c.parse.ensures.value.0))
+    whole_said-none c.args.word.now
+    (λ z fits e. c.in_default-parse.not-Ok z (signed_decimal-read z c.in-Ok.text.now c.parse.result fits (e ∙ sym text) c.parse.ensures.value.0))
 
 pub returns-then-eq : goal.returns-then-eq
 returns-then-eq c =
     let text = c.in-Ok.ensures.cases.0 in
     let number_fits : FitsSigned w128 c.in-Ok-parse.number = search rules in
     let printed = simp to_z-of_z at c.format.ensures.text in
-    let spelled : signed_decimal c.in-Ok-parse.number ≡ c.args.word.now = sym printed ∙ (bytes_eq-Decides c.format.result.now c.in-Ok.text.now).0 (sym c.eq.ensures ∙ c.if-eq.true) ∙ text in
+    let spelled : signed_decimal c.in-Ok-parse.number ≡ c.args.word.now = sym printed ∙ (bytes_eq-Decides c.format.result.now c.in-Ok.text.now).0
+    (sym c.eq.ensures ∙ c.if-eq.true) ∙ text in
     let fits : InRange c.in-Ok-parse.number = omega (arith, ints, c.if-number.true) in
     simp to_z-of_z (sym (whole_said-again c.in-Ok-parse.number fits) ∙ ap whole_said spelled)
 

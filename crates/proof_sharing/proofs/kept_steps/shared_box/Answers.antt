@@ -18,13 +18,16 @@ loop-step-preserved c =
     let below : length new < length steps = omega (arith, c.loop-step.invariant.1, c.loop-step-test.true) in
     let fails : c.flag_at-is_failed.result ≡ is_failed steps (length new) =
     c.flag_at-is_failed.ensures ∙ (λ i. slice_index_or (c.as_slice.ensures.value i) (at i) false) ∙ c.in_ok-failed.ensures.each (length new) below in
-    let place : c.number_at-place.result ≡ slice_index_or c.args.places.now (length new) 0 = c.number_at-place.ensures ∙ ap (λ (k : ℕ). slice_index_or c.args.places.now k 0) at in
+    let place : c.number_at-place.result ≡ slice_index_or c.args.places.now (length new) 0 = c.number_at-place.ensures
+    ∙ ap (λ (k : ℕ). slice_index_or c.args.places.now k 0) at in
     let made : c.in_ok-one.one ≡ kept_step c.args.given (is_failed steps (length new)) (slice_index_or c.args.places.now (length new) 0) new one =
     c.in_ok-one.ensures ∙ (λ i. kept_step c.args.given (fails i) (place i) (c.as_slice-in-loop-step.ensures.value i) one) in
     let longer : c.push.new.self.items ≡ new ++ length kept ∷ [] = c.in_ok-push.ensures.items ∙ ap (λ (k : ℕ). new ++ k ∷ []) (c.len.ensures ∙ kept_long) in
-    let more : c.push_kept.new.kept.items ≡ and_kept kept (kept_step c.args.given (is_failed steps (length new)) (slice_index_or c.args.places.now (length new) 0) new one) =
+    let more : c.push_kept.new.kept.items
+    ≡ and_kept kept (kept_step c.args.given (is_failed steps (length new)) (slice_index_or c.args.places.now (length new) 0) new one) =
     c.in_ok-push_kept.ensures ∙ ap (λ (o : Option Step). and_kept kept o) made in (
       (λ i. kept_from c.args.given (is_failed steps) c.args.places.now (longer i) (more i) (drop (c.loop-step.step-index + 1) steps))
-          ∙ kept-more c.args.given (is_failed steps) c.args.places.now new kept steps c.loop-step.step-index one _ c.loop-step-test.true c.step-item.is c.loop-step.invariant.0,
+          ∙ kept-more c.args.given (is_failed steps) c.args.places.now new kept steps c.loop-step.step-index one _ c.loop-step-test.true c.step-item.is
+          c.loop-step.invariant.0,
       omega (arith, ap length longer, length-append new (length kept ∷ []), c.loop-step.invariant.1),
     )

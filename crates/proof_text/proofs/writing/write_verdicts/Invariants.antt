@@ -6,4 +6,5 @@ use Rattle.proof_grammar.specs.Sizes.{IsSizedVerdict}
 use Rattle.proof_text.proofs.writing.write_verdicts.Given as goal
 
 abbrev pub invariant-loop-verdict : goal.invariant-loop-verdict
-invariant-loop-verdict l = (l.text.items ≡ l.fn.text.items ++ line_text (count_line (codes "lines") l.verdicts) ++ flat_map verdict_text (take l.verdict-index l.verdicts)) × AllByRecursion IsSizedVerdict (take l.verdict-index l.verdicts)
+invariant-loop-verdict l = (l.text.items ≡ l.fn.text.items ++ line_text (count_line (codes "lines") l.verdicts)
+    ++ flat_map verdict_text (take l.verdict-index l.verdicts)) × AllByRecursion IsSizedVerdict (take l.verdict-index l.verdicts)

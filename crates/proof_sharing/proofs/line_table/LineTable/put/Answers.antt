@@ -21,4 +21,5 @@ returns-clause-table c =
 
 pub returns-clause-place : goal.returns-clause-place
 returns-clause-place c =
-    c.in_ok-place.ensures.index ∙ place-same _ same c.args.step c.self.inside.steps.keys ∙ ap (λ (table : List Step). place_in table (step_of c.args.step)) c.self.view_is
+    c.in_ok-place.ensures.index ∙ place-same _ same c.args.step c.self.inside.steps.keys ∙ ap (λ (table : List Step). place_in table (step_of c.args.step))
+    c.self.view_is

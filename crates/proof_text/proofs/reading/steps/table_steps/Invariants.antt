@@ -6,5 +6,6 @@ use Rattle.proof_text.proofs.reading.steps.table_steps.Given as goal
 
 abbrev pub invariant-loop : goal.invariant-loop
 invariant-loop l =
-    (onto l.steps.items (read_many (read_line table_step_in) (l.count - l.counter) l.lines.left) ≡ read_many (read_line table_step_in) l.fn.count l.fn.lines.left)
+    (onto l.steps.items (read_many (read_line table_step_in) (l.count - l.counter) l.lines.left) ≡ read_many
+    (read_line table_step_in) l.fn.count l.fn.lines.left)
     × (l.lines.all ≡ l.fn.lines.all)

@@ -15,7 +15,8 @@ returns-clause-text c =
     let first = simp to_z-of_z at c.in_ok-write_multiple.ensures.text in
     let second = simp to_z-of_z at c.in_ok-write_multiple-2.ensures.text in
     let third = simp to_z-of_z at c.in_ok-write_signed.ensures.text in
-    combine-words c.args.text.now.items c.extend_from_slice.new.self.items c.write_multiple.new.text.items c.write_multiple-2.new.text.items c.write_signed.new.text.items
+    combine-words c.args.text.now.items c.extend_from_slice.new.self.items c.write_multiple.new.text.items c.write_multiple-2.new.text.items
+    c.write_signed.new.text.items
     (named c.args.a) (signed_decimal c.args.m) (named c.args.b) (signed_decimal c.args.n) (signed_decimal c.args.g)
     c.in_ok-extend_from_slice.ensures.items first second third
 

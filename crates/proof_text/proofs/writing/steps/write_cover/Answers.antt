@@ -8,7 +8,8 @@ use Rattle.proof_text.proofs.writing.steps.write_cover.Goals as goal
 
 pub returns-clause-text : goal.returns-clause-text
 returns-clause-text c =
-    let pieces : c.write_all_named.new.text.items ≡ c.args.text.now.items ++ (codes "cover " ++ (named c.args.field ++ flat_map (λ (n : ℕ). 32 ∷ named n) c.args.parts.now)) = grind (arith, common_steps) in
+    let pieces : c.write_all_named.new.text.items ≡ c.args.text.now.items
+    ++ (codes "cover " ++ (named c.args.field ++ flat_map (λ (n : ℕ). 32 ∷ named n) c.args.parts.now)) = grind (arith, common_steps) in
     pieces ∙ ap (λ (ws : List ℕ). c.args.text.now.items ++ (codes "cover " ++ ws)) (sym (named-words (named c.args.field) c.args.parts.now))
 
 pub returns-in_err-extend_from_slice-clause-begins : goal.returns-in_err-extend_from_slice-clause-begins

@@ -6,4 +6,5 @@ use Rattle.proof_grammar.specs.Sizes.{IsSizedStep}
 use Rattle.proof_text.proofs.writing.steps.write_steps.Given as goal
 
 abbrev pub invariant-loop-step : goal.invariant-loop-step
-invariant-loop-step l = (l.text.items ≡ l.fn.text.items ++ (32 ∷ decimal (length l.steps)) ++ (10 ∷ lines_text (map (step_line_in l.shared) (take l.step-index l.steps)))) × AllByRecursion IsSizedStep (take l.step-index l.steps)
+invariant-loop-step l = (l.text.items ≡ l.fn.text.items ++ (32 ∷ decimal (length l.steps))
+    ++ (10 ∷ lines_text (map (step_line_in l.shared) (take l.step-index l.steps)))) × AllByRecursion IsSizedStep (take l.step-index l.steps)

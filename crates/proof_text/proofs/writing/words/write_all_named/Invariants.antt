@@ -5,4 +5,5 @@ use Rattle.proof_grammar.specs.Limits.{IsLong}
 use Rattle.proof_text.proofs.writing.words.write_all_named.Given as goal
 
 abbrev pub invariant-loop-number : goal.invariant-loop-number
-invariant-loop-number l = (l.text.items ≡ l.fn.text.items ++ flat_map (λ (n : ℕ). 32 ∷ named n) (take l.number-index l.numbers)) × AllByRecursion IsLong (take l.number-index l.numbers)
+invariant-loop-number l = (l.text.items ≡ l.fn.text.items ++ flat_map (λ (n : ℕ). 32 ∷ named n) (take l.number-index l.numbers))
+    × AllByRecursion IsLong (take l.number-index l.numbers)

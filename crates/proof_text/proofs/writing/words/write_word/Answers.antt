@@ -1,6 +1,6 @@
 use Rattle.std.proofs.Common.{◌∙◌}
 use Rattle.std.proofs.Transfers.{starts_with_of_append, starts_with_of_eq}
-use Rattle.proof_text.proofs.writing.words.write_signed.Goals as goal
+use Rattle.proof_text.proofs.writing.words.write_word.Goals as goal
 
 pub returns-in_err-push-clause-begins : goal.returns-in_err-push-clause-begins
 returns-in_err-push-clause-begins c = starts_with_of_eq _ _ c.in_err-push.ensures.items
