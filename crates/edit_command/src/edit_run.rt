@@ -1,8 +1,18 @@
-//! A run of `edit`, and one of `classed`.
+//! A run of `edit`, and one of `classed`: files are fetched and read, the records edited, the release
+//! stored, and its summary printed. Both are one run, with a class field or without. The clauses of a run
+//! say what is stored and printed where it did all (`edited` or `classed`), and with which fault it ended
+//! elsewhere (`stopped`). They also say that it did all where nothing stood in the way (`complete`), and
+//! that what is wrong with a file is told exactly where it is so (`due`).
+//!
+//! In contracts, `HasReleased` says that the run ends with `Done` or `SomeUnresolved`. `ran` is what is
+//! seen of the desk and the printer before and after the call. `AnswersDue` says that a status that is due
+//! is answered, unless a file could not be read or memory was refused. Of the work on the desk, `kind`
+//! says which refusals may come, and `cause` what each says of the files. `files` says what is left there,
+//! `asked` which calls are made, and `faults` how the count of faults stands after them.
 ghost use Rattle.std.specs.Prelude.{◌≡◌, ◌≢◌, ◌<◌, ℕ, List, IfErr, IfOk, IfSome, length, option_copied};
 ghost use Rattle.std.specs.List.{AllByRecursion};
 ghost use Rattle.edit_desk.specs.Desk.{PutsOnRecord, Told};
-ghost use Rattle.edit_model.specs.PlainNumbers.{HasPlain};
+ghost use Rattle.edit_model.specs.PlainNumbers.{HasPlainNumbers};
 ghost use Rattle.record_text.specs.Sheets.{IsSheet};
 ghost use Rattle.record_editing.specs.Donations.{AreTerms};
 ghost use Rattle.edit_release.specs.Releases.{IsReleaseOf};
@@ -33,7 +43,9 @@ use std::alloc::Global;
 use std::sync::Wait;
 use std::thread::Threads;
 
-/// Edits what the words ask for, and prints the summary, or why the run is refused.
+/// Edits the records that the words name, with donors among all clean records, and prints the summary, or
+/// why the run is refused. The answer is the status of the run. `gate` is told of each record that a
+/// worker draws.
 pub fn run_edit<R: Threads + Wait + Sync, D: Desk, P: Printer, G: Gate>(
     rt: &R,
     alloc: Global,
@@ -51,7 +63,9 @@ pub fn run_edit<R: Threads + Wait + Sync, D: Desk, P: Printer, G: Gate>(
     run(rt, alloc, asked, None, desk, printer, gate)
 }
 
-/// Edits what the words ask for, by the classes of the field that they name, and prints the summary, or why the run is refused.
+/// Edits the records that the words name, with donors of a record's own imputation class, by the field
+/// that the words name too. It prints the summary, or why the run is refused, and answers the status of
+/// the run. `gate` is told of each record that a worker draws.
 pub fn run_classed<R: Threads + Wait + Sync, D: Desk, P: Printer, G: Gate>(
     rt: &R,
     alloc: Global,
@@ -77,8 +91,8 @@ pub fn run_classed<R: Threads + Wait + Sync, D: Desk, P: Printer, G: Gate>(
     )
 }
 
-// Edits what the words ask for, by the classes of the field with this name, or by none, and prints the summary, or why the run is
-// refused.
+// Edits the records that the words name, by the classes of the field named `class`, or without classes
+// where that is None. It prints the summary, or why the run is refused, and answers the status of the run.
 fn run<'a, R: Threads + Wait + Sync, D: Desk, P: Printer, G: Gate>(
     rt: &R,
     alloc: Global,
@@ -103,7 +117,8 @@ fn run<'a, R: Threads + Wait + Sync, D: Desk, P: Printer, G: Gate>(
     }
 }
 
-// How an edit ends that did all on the desk.
+// The status of an edit whose files are stored: `Done` where all records are released, and
+// `SomeUnresolved` where one was left out.
 fn status_of(release: &Release) -> Status
     ensures { result ≡ edit_status release.now }
 {
@@ -114,7 +129,9 @@ fn status_of(release: &Release) -> Status
     }
 }
 
-// Does on the desk all that an edit does there, up to the first fault.
+// Does on the desk all that an edit does there, up to the first fault: fetches, edits, and stores the
+// release, which it then answers. Refused where a file can't be had or read, no categorical field has the
+// name asked for, a store fails, or memory is refused.
 fn edit<'a, R: Threads + Wait + Sync, D: Desk, G: Gate>(
     rt: &R,
     alloc: Global,
@@ -147,7 +164,8 @@ fn edit<'a, R: Threads + Wait + Sync, D: Desk, G: Gate>(
     Ok(release)
 }
 
-// Stores the proof, the reasons, and then the released file.
+// Stores the proof, the reasons, and then the released file. The released file is last: where it is
+// stored, the other two are. Refused at the first store that fails, and for want of memory.
 fn store_release<'a, D: Desk>(
     alloc: Global,
     asked: &EditWords<'a>,
@@ -166,7 +184,8 @@ fn store_release<'a, D: Desk>(
     Ok(())
 }
 
-// On what terms the records are edited, by the classes of this field or by none.
+// The terms on which the words ask to edit: a record's budget, how often a donor gives values, and how
+// many donors a record ranks. `class_field` is the number of the class field, if one is asked for.
 fn terms_asked(asked: &EditWords, class_field: Option<u32>) -> Terms
     ensures terms { result ≡ terms_asked asked.now class_field }
     ensures are { AreTerms result }
@@ -179,8 +198,8 @@ fn terms_asked(asked: &EditWords, class_field: Option<u32>) -> Terms
     }
 }
 
-// What the edit of the sheet releases, on the terms and by as many workers as are asked for. How far records are apart is
-// told by the distances of their fields' values.
+// The release of the edit of the sheet, on the terms and by as many workers as the words ask for. How far
+// apart two records are is told by the distances of their fields' values, each by its field's scale.
 fn release_of<R: Threads + Wait + Sync, G: Gate>(
     rt: &R,
     alloc: Global,
@@ -191,7 +210,7 @@ fn release_of<R: Threads + Wait + Sync, G: Gate>(
     gate: &G,
 ) -> Result<Release, OutOfMemory>
     requires read { (bytes : List ℕ) × IsSheet survey.fields bytes sheet }
-    requires plain { AllByRecursion HasPlain sheet.rows }
+    requires plain { AllByRecursion HasPlainNumbers sheet.rows }
     requires field { IfSome class_field (λ number. number < length survey.fields) }
     ensures edit { IfOk result (IsReleaseOf survey sheet (terms_asked asked.now class_field) asked.now.workers) }
 {

@@ -1,8 +1,10 @@
+//! What follows from the definitions of an edit, stated as a call that computes nothing.
 ghost use Rattle.edit_command.specs.Laws.{OneMadeLaw, WholeLaw};
 
-/// When an edit releases every record: where some point is consistent, the budget is enough for each record, and no
-/// number leaves 128 bits. And that the files, the words and the claims of donors settle all that it does. Nothing is
-/// computed.
+/// Two laws of edits; nothing is computed, and no code calls it. An edit releases every record where some
+/// point is consistent, each record's budget is enough, and no number leaves 128 bits. Two edits of the
+/// same files and words, with the same claims of donors, end with one status, and write and print the
+/// same.
 pub fn edit_laws()
     ensures whole { WholeLaw }
     ensures one { OneMadeLaw }

@@ -1,4 +1,4 @@
-//! What the words of the command line ask for.
+//! What the words of the command line ask for: one of the commands with its options, or nothing.
 ghost use Rattle.std.specs.Prelude.{IfOk};
 ghost use Rattle.edit_commands.specs.inner.Asks.{Asks};
 
@@ -22,7 +22,9 @@ pub(crate) enum Asked<'a> {
     Nothing,
 }
 
-/// What the words ask for.
+/// What the words ask for, or `Nothing` where they are no command. The readers of the commands' words are
+/// tried in turn, and at most one of them accepts. In the contract, `Asks` says that the words ask for
+/// this and for nothing else. `Err` for want of memory alone.
 pub(crate) fn read_words<'a>(alloc: Global, words: &'a [String]) -> Result<Asked<'a>, OutOfMemory>
     ensures { IfOk result (Asks words.entry.now) }
 {

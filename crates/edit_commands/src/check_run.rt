@@ -1,4 +1,14 @@
-//! A run of `check`.
+//! A run of `check`: the rules, the records, the released file and the proof are fetched, and the verdict
+//! of the audit is printed. Nothing is stored. The clauses of a run say what is shown and printed where
+//! it did all (`checked`), and with which fault it ended elsewhere (`stopped`). They also say that it did
+//! all where nothing stood in the way (`complete`), and that what is wrong with a file is told exactly
+//! where it is so (`due`).
+//!
+//! In contracts, `ran` is what is seen of the desk and the printer before and after the call. `AnswersDue`
+//! says that a status that is due is answered, unless a file could not be read or memory was refused. Of
+//! the work on the desk, `kind` says which refusals may come, and `cause` what each says of the files.
+//! `asked` says which calls the desk is asked for, `faults` how its count of faults stands after them, and
+//! `unchanged` that no file is changed.
 ghost use Rattle.std.specs.Prelude.{◌≡◌, ◌≢◌, IfErr, IfOk, IfSome};
 ghost use Rattle.edit_desk.specs.Desk.{PutsOnRecord};
 ghost use Rattle.edit_commands.specs.CheckRun.{IsCheckComplete, IsCheckStopped, IsChecked, check_calls, valid_text};
@@ -18,7 +28,8 @@ use run_parts::{
 };
 use std::alloc::Global;
 
-/// Checks what the words ask for, and prints that it is a valid release, or why the run is refused.
+/// Audits the release that the words name, and prints that it is valid, or why the run is refused. The
+/// answer is the status of the run: `Done` only for a valid release, and `Rejected` for one that is not.
 pub(crate) fn run_check<D: Desk, P: Printer>(
     alloc: Global,
     asked: &CheckWords,
@@ -37,7 +48,9 @@ pub(crate) fn run_check<D: Desk, P: Printer>(
     }
 }
 
-// Does on the desk all that a check does there, up to the first fault, and gives the line that is printed.
+// Does on the desk all that a check does there, up to the first fault. It gives the line that is printed
+// of a valid release. Refused where a file can't be read, is too long or has no reading, where the release
+// is not valid, and for want of memory.
 fn check<'a, D: Desk>(
     alloc: Global,
     asked: &CheckWords<'a>,
@@ -61,7 +74,8 @@ fn check<'a, D: Desk>(
     }
 }
 
-// The line that is printed of a valid release.
+// The line that is printed of a valid release, as `valid records 4 released 4`, without its line feed.
+// `records` were read, and `released` of them are released. Refused for want of memory alone.
 fn valid_line<'a>(alloc: Global, records: u32, released: u32) -> Result<Vec<u8>, Refusal<'a>>
     ensures line { IfOk result (λ line. line.items ≡ valid_text records released) }
     ensures memory { IfErr result (λ fault. fault ≡ faults.OutOfMemory) }

@@ -1,5 +1,6 @@
-//! The commands of the program, over any desk and any printer: here a check of what was released, which rules follow from
-//! the others, and a survey that is made to try them on, beside those of the crates below. Begin with [`fh_main`].
+//! The commands of the program, over any desk and any printer. Here are a check of what was released,
+//! which rules follow from the others, and a survey that is made to try them on. The others are in crates
+//! below. Begin with [`fh_main`].
 #![tactic(auto)]
 
 mod asked;

@@ -1,4 +1,11 @@
-//! A run of `make`.
+//! A run of `make`: the rules of a survey that is made up, and records of it, are stored. No file is
+//! read. The clauses of a run say what is stored and printed where it did all (`made`), and with which
+//! fault it ended elsewhere (`stopped`). They also say that it did all where nothing stood in the way
+//! (`complete`).
+//!
+//! In contracts, `ran` is what is seen of the desk and the printer before and after the call. Of the work
+//! on the desk, `kind` says which refusals may come, and `files` what is left there. `asked` says which
+//! calls are made, and `faults` how the count of faults stands after them.
 ghost use Rattle.std.specs.Prelude.{◌≡◌, ◌≢◌, ◌∷◌, [], IfErr, IfOk};
 ghost use Rattle.edit_desk.specs.Desk.{PutsOnRecord, Told, stored};
 ghost use Rattle.edit_language.specs.Printing.{printed};
@@ -17,7 +24,8 @@ use run_parts::{Refusal, Status, refuse, store_file, tell};
 use std::alloc::Global;
 use survey_maker::{records_text, rules_text};
 
-// What is stored and printed of a survey that is made.
+// What is stored and printed of a survey that is made: its rule file, its record file, and the line that
+// counts the records. The line has no line feed.
 #[derive(Drop)]
 struct SurveyTexts {
     rules: Vec<u8>,
@@ -25,7 +33,8 @@ struct SurveyTexts {
     line: Vec<u8>,
 }
 
-/// Stores the survey that the words ask for, and prints how many records it has, or why the run is refused.
+/// Stores the survey that the words ask for, under the names that they give. It prints how many records
+/// the survey has, or why the run is refused, and answers the status of the run.
 pub(crate) fn run_make<D: Desk, P: Printer>(
     alloc: Global,
     asked: &MakeWords,
@@ -43,7 +52,8 @@ pub(crate) fn run_make<D: Desk, P: Printer>(
     }
 }
 
-// Does on the desk all that the command does there, up to the first fault.
+// Does on the desk all that the command does there, up to the first fault, and gives the texts that it
+// stored. Refused where a store fails, and for want of memory.
 fn make<'a, D: Desk>(
     alloc: Global,
     asked: &MakeWords<'a>,
@@ -62,7 +72,8 @@ fn make<'a, D: Desk>(
     Ok(made)
 }
 
-// The texts of so many records from this start, and of their rules.
+// The rule file, a record file of `rows` records that follow from the number `start`, and the line that is
+// printed, as `made rows 100`.
 fn survey_of(alloc: Global, start: u32, rows: u32) -> Result<SurveyTexts, OutOfMemory>
     ensures rules { IfOk result (λ made. made.rules.items ≡ printed survey_made) }
     ensures records { IfOk result (λ made. made.records.items ≡ record_file start rows) }
@@ -78,7 +89,8 @@ fn survey_of(alloc: Global, start: u32, rows: u32) -> Result<SurveyTexts, OutOfM
     })
 }
 
-// Stores the rules under one name, and then the records under another.
+// Stores the rule file under the name `rules`, and then the record file under the name `records`. Refused
+// at the first store that fails, and for want of memory.
 fn store_survey<'a, D: Desk>(
     alloc: Global,
     rules: &'a str,

@@ -1,4 +1,14 @@
-//! A run of `rules`.
+//! A run of `rules`: the rules are fetched, and each of their lines is tried for whether it follows from
+//! the others. What becomes of the lines is printed, and nothing is stored. The clauses of a run say what
+//! is printed, and what it means, where it did all (`ruled`), and with which fault it ended elsewhere
+//! (`stopped`). They also say that it did all where nothing stood in the way (`complete`), and that what
+//! is wrong with a file is told exactly where it is so (`due`).
+//!
+//! In contracts, `ran` is what is seen of the desk and the printer before and after the call. `AnswersDue`
+//! says that a status that is due is answered, unless a file could not be read or memory was refused. Of
+//! the work on the desk, `kind` says which refusals may come, and `cause` what each says of the files.
+//! `asked` says which calls the desk is asked for, `faults` how its count of faults stands after them, and
+//! `unchanged` that no file is changed.
 ghost use Rattle.std.specs.Prelude.{◌≡◌, ◌≢◌, IfErr, IfOk, IfSome};
 ghost use Rattle.edit_desk.specs.Desk.{PutsOnRecord};
 ghost use Rattle.run_parts.specs.Faults.{IsOfRulesCommand};
@@ -20,7 +30,8 @@ use rule_report::report;
 use run_parts::{Refusal, Status, fetch_survey, refuse, tell_all};
 use std::alloc::Global;
 
-/// Prints what becomes of each line of the rules that the words name, or why the run is refused.
+/// Prints what becomes of each line of the rules that the words name: whether it follows from the others.
+/// Or it prints why the run is refused. The answer is the status of the run.
 pub(crate) fn run_rules<D: Desk, P: Printer>(
     alloc: Global,
     asked: &RulesWords,
@@ -39,7 +50,8 @@ pub(crate) fn run_rules<D: Desk, P: Printer>(
     }
 }
 
-// Does on the desk all that the command does there, up to the first fault, and gives the lines that are printed.
+// Fetches the rules that the words name, and gives the lines that are printed of them. Refused where the
+// file has no reading, can't be read or is too long, and for want of memory.
 fn rules<'a, D: Desk>(
     alloc: Global,
     asked: &RulesWords<'a>,
@@ -60,7 +72,9 @@ fn rules<'a, D: Desk>(
     Ok(lines)
 }
 
-// The lines that are printed of the survey's rules.
+// The lines that are printed of the survey's rules, without line feeds. Dropped lines follow from the kept
+// ones, as their steps show. A line kept as needed can fail where those hold that were left when it was
+// tried. Each equality is kept as one.
 fn lines_of(alloc: Global, survey: &Survey) -> Result<Vec<Vec<u8>>, OutOfMemory>
     ensures texts { IfOk result (λ lines. texts_in lines.items ≡ report_of survey.now) }
     ensures dropped { IfOk result (λ lines. AllFollow (normal_lines_of survey.now) (rule_flags survey.now)) }

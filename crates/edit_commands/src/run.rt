@@ -1,3 +1,13 @@
+//! The one call of the program: it reads the words, and hands them to the run of the command that they
+//! ask for.
+//!
+//! `edit` corrects records at the least weight, and so does `classed`, with donors of the record's own
+//! class. `check` audits a release, and `rules` tells which rules follow from the others. `fill` gives
+//! missing fields the values that the rules force. `panel` corrects beside values of the last period,
+//! which stay. `make` makes up a survey.
+//!
+//! In contracts, `ForEdit words` and its like say that something holds of what the words ask for, where
+//! they ask for that command.
 ghost use Rattle.std.specs.Prelude.{◌≡◌, ◌≢◌, IfSome};
 ghost use Rattle.command_words.specs.Asked.{ForCheck, ForClassed, ForEdit, ForFill, ForMake, ForPanel, ForRules, IsNoCommand};
 ghost use Rattle.edit_commands.specs.CheckRun.{IsCheckComplete, IsCheckStopped, IsChecked};
@@ -27,18 +37,10 @@ use std::alloc::Global;
 use std::sync::Wait;
 use std::thread::Threads;
 
-/// Serves the words after the program's name, over a desk and a printer. `edit` fetches and reads the rules, then
-/// the records, corrects each record at the least weight, stores the proof, the reasons and the released file, and
-/// prints a summary; as many workers as the words ask for draw the records side by side, and the gate is told of each
-/// draw. `classed` does the same, with donors that have the record's own code at a categorical field; it looks for the
-/// field by its name when the rules are read, before it fetches the records. `check` fetches and reads the rules, then
-/// the records, fetches the released file, then the proof, and prints whether they are a valid release. `rules` fetches
-/// and reads the rules, and prints what becomes of each of their lines. `fill` fetches and reads the rules, then the
-/// records, gives each field without a value the value that the rules force, stores the released file, and prints how
-/// many fields were filled. `panel` fetches and reads the rules, then the records, then the rows of the last period,
-/// corrects each record at the least weight that leaves its values of the last period alone, stores the proof, the
-/// reasons and the released file, and prints a summary. `make` stores the rules of a survey that is made up, then
-/// records of it, and prints how many there are. The first refusal in this order ends the call, and is printed.
+/// Runs the command that the words after the program's name ask for, over a desk and a printer, and
+/// answers the status of the run. What is printed is the command's lines, or why the run is refused. The
+/// first fault ends the run. `gate` is told of each record that a worker of an edit draws. What each
+/// command does stands at its own run, such as `run_edit`.
 pub fn fh_main<R: Threads + Wait + Sync, D: Desk, P: Printer, G: Gate>(
     rt: &R,
     alloc: Global,
@@ -49,12 +51,13 @@ pub fn fh_main<R: Threads + Wait + Sync, D: Desk, P: Printer, G: Gate>(
 ) -> Status
     // `ran` is what the desk and the printer tell when the call begins, and when it returns.
 
-    // The words are no command: that is told exactly where it is so, but for want of memory, and nothing is asked of the desk.
+    // The words are no command: that is told exactly where it is so, but for want of memory, and nothing
+    // is asked of the desk.
     ensures usage { result ≡ Status.Usage → IsNoCommand words.now }
     ensures unasked { IsNoCommand words.now → IsRefused word_refusals result (ran D.Desk P.Printer desk printer) }
 
-    // The release guarantee: what stands in the three files, and what was printed, where an edit ends with 0 or 1; and that it
-    // is 0 where nothing stands in the way of any record.
+    // The release guarantee: what stands in the three files, and what was printed, where an edit ends with
+    // 0 or 1. It is 0 where nothing stands in the way of any record.
     ensures edited { HasReleased result → ForEdit words.now (λ ask. IsEdited ask result (ran D.Desk P.Printer desk printer)) }
 
     // Where it ends otherwise: the fault that ended it, where it ended, what is left and what was printed.
@@ -66,17 +69,20 @@ pub fn fh_main<R: Threads + Wait + Sync, D: Desk, P: Printer, G: Gate>(
     // A file that is too long or has no reading is told exactly where it is so.
     ensures edit_due { ForEdit words.now (λ ask. IfSome (D.files desk.old) (λ files. AnswersDue (IsDue ask files) result)) }
 
-    // Donors of the record's own class: what stands in the three files, and what was printed, where `classed` ends with 0 or 1.
+    // Donors of the record's own class: what stands in the three files, and what was printed, where
+    // `classed` ends with 0 or 1.
     ensures classed { HasReleased result → ForClassed words.now (λ ask. IsClassedRun ask result (ran D.Desk P.Printer desk printer)) }
 
     // Where it ends otherwise: the fault that ended it, where it ended, what is left and what was printed.
     ensures classed_stopped { ¬ HasReleased result → ForClassed words.now
         (λ ask. IsClassedStopped ask result (ran D.Desk P.Printer desk printer)) }
 
-    // Where both files have readings, the rules with the class field, and no fault is met, it is done, but for want of memory.
+    // Where both files have readings, the rules with the class field, and no fault is met, it is done, but
+    // for want of memory.
     ensures classed_complete { ForClassed words.now (λ ask. IsClassedComplete ask result (ran D.Desk P.Printer desk printer)) }
 
-    // A file that is too long or has no reading, and a class field that no categorical field is, are told exactly where they are so.
+    // A file that is too long or has no reading, and a class field that no categorical field is, are told
+    // exactly where they are so.
     ensures classed_due { ForClassed words.now (λ ask. IfSome (D.files desk.old) (λ files. AnswersDue (IsClassedDue ask files) result)) }
 
     // The audit: what the files are, and what they show, where a check ends with 0.
@@ -105,7 +111,8 @@ pub fn fh_main<R: Threads + Wait + Sync, D: Desk, P: Printer, G: Gate>(
     // Rules that are too long or have no reading are told exactly where they are so.
     ensures rules_due { ForRules words.now (λ ask. IfSome (D.files desk.old) (λ files. AnswersDue (IsRulesDue ask files) result)) }
 
-    // Missing values that the rules force: what stands in the released file, and what was printed, where `fill` ends with 0 or 1.
+    // Missing values that the rules force: what stands in the released file, and what was printed, where
+    // `fill` ends with 0 or 1.
     ensures filled { HasReleased result → ForFill words.now (λ ask. IsFillRun ask result (ran D.Desk P.Printer desk printer)) }
 
     // Where it ends otherwise: the fault that ended it, where it ended, what is left and what was printed.
@@ -118,15 +125,16 @@ pub fn fh_main<R: Threads + Wait + Sync, D: Desk, P: Printer, G: Gate>(
     // A file that is too long or has no reading is told exactly where it is so.
     ensures fill_due { ForFill words.now (λ ask. IfSome (D.files desk.old) (λ files. AnswersDue (IsFillDue ask files) result)) }
 
-    // Records whose values of the last period are left alone: what stands in the three files, and what was printed, where `panel`
-    // ends with 0 or 1.
+    // Records whose values of the last period are left alone: what stands in the three files, and what was
+    // printed, where `panel` ends with 0 or 1.
     ensures linked { HasReleased result → ForPanel words.now (λ ask. IsPanelRun ask result (ran D.Desk P.Printer desk printer)) }
 
     // Where it ends otherwise: the fault that ended it, where it ended, what is left and what was printed.
     ensures panel_stopped { ¬ HasReleased result → ForPanel words.now
         (λ ask. IsPanelStopped ask result (ran D.Desk P.Printer desk printer)) }
 
-    // Where the three files have readings with their keys and no fault is met, the records are corrected, but for want of memory.
+    // Where the three files have readings with their keys and no fault is met, the records are corrected,
+    // but for want of memory.
     ensures panel_complete { ForPanel words.now (λ ask. IsPanelComplete ask result (ran D.Desk P.Printer desk printer)) }
 
     // A file that is too long, or has no reading with its key, is told exactly where it is so.

@@ -1,4 +1,7 @@
-//! A run of `fill`.
+//! A run of `fill`: the rules and the records are fetched, values that the rules force are filled in, and
+//! the released file is stored. The clauses of a run say what is stored and printed where it did all
+//! (`filled`), and with which fault it ended elsewhere (`stopped`). They also say that it did all where
+//! nothing stood in the way (`complete`). What is wrong with a file is told exactly where it is so (`due`).
 ghost use Rattle.std.specs.Prelude.{◌≡◌, ◌≢◌, if◌then◌else◌, IfErr, IfSome};
 ghost use Rattle.edit_desk.specs.Desk.{PutsOnRecord, Told};
 ghost use Rattle.fill_command.specs.FillRun.{IsFillComplete, IsFillDue, IsFillRun, IsFillStopped, fill_calls, fill_command, made_of};
@@ -15,7 +18,9 @@ use filled_release::{FilledFile, fill_sheet};
 use run_parts::{Refusal, Status, fetch_input, refuse, store_file, tell};
 use std::alloc::Global;
 
-/// Fills the records that the words name, and prints how many fields were filled, or why the run is refused.
+/// Fills the records that the words name, and prints how many fields were filled, or why the run is
+/// refused. The answer is the status of the run: `Done`, or `SomeUnresolved` where filling stopped on some
+/// record. Else it is that of the refusal, or `WriteFault` where the summary is not printed.
 pub fn run_fill<D: Desk, P: Printer>(
     alloc: Global,
     asked: &FillWords,
@@ -34,7 +39,7 @@ pub fn run_fill<D: Desk, P: Printer>(
     }
 }
 
-// How a run ends that did all on the desk.
+// How a run ends whose file is stored: `Done` where filling stopped on no record.
 fn status_of(file: &FilledFile) -> Status
     ensures { result ≡ (if file.now.whole then Status.Done else Status.SomeUnresolved) }
 {
@@ -45,7 +50,10 @@ fn status_of(file: &FilledFile) -> Status
     }
 }
 
-// Does on the desk all that the command does there, up to the first fault.
+// Does on the desk all that the command does there, up to the first fault. It fetches, fills, and stores
+// the released file, which it then answers. The clauses say which refusals may come (`kind`), what each
+// says of the files (`cause`), and when one has to come (`due`). They also say what the desk has afterwards
+// (`files`), and what was asked of it (`asked`).
 fn fill<'a, D: Desk>(
     alloc: Global,
     asked: &FillWords<'a>,

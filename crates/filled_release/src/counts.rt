@@ -1,4 +1,5 @@
-//! What is counted of the records of a file that is filled.
+//! What is counted of the records of a file that is filled, for the line that is printed and the status
+//! of the run. In contracts, `AreCountsOf` says that the counts are those of records with these answers.
 ghost use Rattle.std.specs.Prelude.{◌≡◌, ◌<◌, ◌++◌, ◌∷◌, [], List, IfOk, not};
 ghost use Rattle.std.specs.List.{list_any};
 ghost use Rattle.foundation.specs.Limits.{most_records};
@@ -10,7 +11,9 @@ use deduce_fill::Filled;
 use foundation::OutOfMemory;
 use std::alloc::Global;
 
-/// How many records there are, how many fields of them are filled, and how many records are blocked and stopped.
+/// How many records there are, how many fields of them are filled, how many records are blocked, and on
+/// how many filling stopped. No count is beyond what the records of a file can have (`AreFew`), so that
+/// no sum overflows.
 #[derive(Clone, Copy)]
 pub(crate) struct Counts {
     pub(crate) records: u32,
@@ -20,7 +23,7 @@ pub(crate) struct Counts {
 }
 
 impl Counts {
-    /// Those of no record. No memory.
+    /// The counts of no record. No memory.
     pub(crate) fn of_none() -> Counts
         ensures counts { AreCountsOf [] result }
         ensures few { AreFew result }
@@ -33,7 +36,8 @@ impl Counts {
         }
     }
 
-    /// Counts one record more, of which filling gives this answer. No memory.
+    /// Counts one record more, of which filling gives this answer. One that is done counts in `records`
+    /// and with its filled fields alone. No memory.
     pub(crate) fn add(&mut self, answer: &Filled)
         requires few { AreFew self.old }
         requires more { self.old.records < most_records }
@@ -56,7 +60,7 @@ impl Counts {
         self.stopped == 0
     }
 
-    /// The line that tells them, without its line feed.
+    /// The line that tells the counts, without its line feed: `records N filled N blocked N stopped N`.
     pub(crate) fn summary(&self, alloc: Global) -> Result<Vec<u8>, OutOfMemory>
         ensures { IfOk result (λ line. (answers : List answers.Filled) → AreCountsOf answers self.now
             → line.items ≡ filled_summary answers) }

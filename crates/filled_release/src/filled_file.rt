@@ -1,4 +1,6 @@
-//! The file of filled records, and the line that tells of it.
+//! The file of filled records, and the line that tells of it: each record is filled by itself, by all
+//! rules of the survey. In contracts, `IsFilledFile` says that each record has an answer, and that the file
+//! and the line tell just these.
 ghost use Rattle.std.specs.Prelude.{◌≡◌, ◌<◌, ℕ, List, IfOk};
 ghost use Rattle.std.specs.Arc.{arc_value};
 ghost use Rattle.edit_line.specs.EditSets.{SayTheRules};
@@ -27,14 +29,16 @@ use std::sync::ledger::{Blank, Ledger};
 pub struct FilledFile {
     /// The bytes of the released file: every record, with the values that are forced.
     pub released: Vec<u8>,
-    /// A line without its line feed: how many records there are, how many fields of them are filled, and how many records are
-    /// blocked and stopped.
+    /// A line without its line feed: how many records there are, how many of their fields are filled, and how
+    /// many are blocked and stopped.
     pub summary: Vec<u8>,
     /// Whether no record is stopped.
     pub whole: bool,
 }
 
-/// Fills each record of the sheet, in order, by all rules of the survey and within this budget.
+/// Fills each record of the sheet, in order, by all rules of the survey. `budget` is the most work for each.
+/// A record that is blocked, or on which filling stopped, is in the file as it was read. The only fault is
+/// want of memory.
 pub fn fill_sheet(
     alloc: Global,
     survey: &Survey,
@@ -69,7 +73,8 @@ pub fn fill_sheet(
     })
 }
 
-// What filling makes of one record. Its steps are not counted.
+// What filling makes of one record: it is done, blocked or stopped. `blank` starts a counter of steps for
+// this call, which nobody reads.
 fn answer_for<L: Ledger>(
     alloc: Global,
     survey: &Survey,

@@ -1,4 +1,5 @@
-//! The row of one record that is filled.
+//! The row of one record as the released file has it after filling. In contracts, `CanBeWritten` says that
+//! the filled record is one of these fields, and `IsLayout` that each field has a column.
 ghost use Rattle.std.specs.Prelude.{◌≡◌, ◌<◌, ◌++◌, ◌∷◌, [], ℕ, List, All, OnOk, length};
 ghost use Rattle.edit_model.specs.FieldSets.{has_number};
 ghost use Rattle.record_text.specs.Texts.{records_text};
@@ -13,7 +14,9 @@ use foundation::OutOfMemory;
 use record_text::{RecordWriter, Texts};
 use std::alloc::Global;
 
-/// Writes the row of a record of which filling gives this answer. One at which nothing is forced is not copied.
+/// Writes the row of a record of which filling gives this answer. `read` are the texts of the row that
+/// was read; they stay as they are but at the fields at which a value is forced. A record at which
+/// nothing is forced is written as it was read, without a copy.
 pub(crate) fn push_filled(
     alloc: Global,
     writer: &mut RecordWriter,
@@ -39,7 +42,7 @@ pub(crate) fn push_filled(
     writer.push(&texts)
 }
 
-// The set of the fields at which a value is forced. No memory.
+// The set of the fields at which these values are forced. No memory.
 fn forced_set(forced: &[Forced]) -> FieldSet
     requires { All (λ e. e.field < 64) forced.now }
     ensures { (f : ℕ) → has_number result f ≡ is_forced forced.now f }

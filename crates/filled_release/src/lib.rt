@@ -1,5 +1,6 @@
-//! The file that the command `fill` writes: every record of a file, with the values that the rules force at fields without
-//! one, and a line that counts them. Begin with [`fill_sheet`] and `specs/FilledFiles.antt`.
+//! The file that the command `fill` writes, and a line that counts. The file has every record, with the
+//! values that the rules force at fields without one. Begin with [`fill_sheet`] and
+//! `specs/FilledFiles.antt`.
 #![tactic(auto)]
 
 mod counts;

@@ -1,4 +1,7 @@
-//! One file of rows that are joined by a key.
+//! One of the two files of rows that are joined by a key. It is fetched and read, and the column of the
+//! key is found in it. The clauses say what the file holds (`read`, `sheet`, `within`), which refusals may
+//! come (`kind`), and what each says of the file (`cause`). They also say what is asked of the desk
+//! (`asked`), how often it failed (`faults`), and that its files stay (`unchanged`).
 ghost use Rattle.std.specs.Prelude.{◌≡◌, ◌<◌, ◌∷◌, [], ℕ, List, IfErr, IfOk, length};
 ghost use Rattle.edit_desk.specs.Desk.{PutsOnRecord, fetched};
 ghost use Rattle.record_text.specs.Sheets.{IsSheet};
@@ -13,7 +16,9 @@ use record_text::Sheet;
 use run_parts::{Fault, RecordsFault, Refusal, fetch_last, fetch_sheet};
 use std::alloc::Global;
 
-/// The sheet of the survey's records that the record file reads as, and the column of the key in it.
+/// The sheet of the survey's records that the record file `name` reads as, and the column of the key in
+/// it, from 0. Refused where the file can't be fetched or has no reading, and as `NoKey` where the key
+/// stands in no column or in several.
 pub(crate) fn fetch_own_rows<'a, D: Desk>(
     alloc: Global,
     name: &'a str,
@@ -38,7 +43,9 @@ pub(crate) fn fetch_own_rows<'a, D: Desk>(
     Ok((sheet, column))
 }
 
-/// The sheet of the survey's records that the file of the last period reads as, and the column of the key in it.
+/// The sheet of the survey's records that the last file `name` reads as, and the column of the key in it,
+/// from 0. Refused where the file can't be fetched or has no reading, and as `NoKey` where the key stands
+/// in no column or in several. What is wrong is told as a fault of the last file (`Fault::Last`).
 pub(crate) fn fetch_last_rows<'a, D: Desk>(
     alloc: Global,
     name: &'a str,

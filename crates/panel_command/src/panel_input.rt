@@ -1,4 +1,6 @@
-//! The three files that the command reads.
+//! The three files that the command reads: the rules, the records, and the rows of the last period. The
+//! clauses of the call say what the files hold (`held`), and which refusals may come (`kind`). They say what
+//! each says of the files (`cause`), and when one has to come (`due`).
 ghost use Rattle.std.specs.Prelude.{◌≡◌, ◌<◌, ◌∷◌, [], ℕ, List, IfErr, IfOk, IfSome, length};
 ghost use Rattle.edit_desk.specs.Desk.{PutsOnRecord, fetched};
 ghost use Rattle.edit_model.specs.Surveys.{IsWellFormed};
@@ -20,7 +22,8 @@ use run_parts::{Refusal, fetch_survey};
 use std::alloc::Global;
 use std::marker::Model;
 
-/// What is read of the three files: the survey, the set of its last fields, and the rows of both files with the column of their key.
+/// What is read of the three files: the survey, the set of its last fields, and the rows of both files.
+/// `own_key` and `last_key` are the columns of the key in these, from 0.
 #[derive(Drop)]
 pub(crate) struct PanelInput {
     pub(crate) survey: Survey,
@@ -44,7 +47,7 @@ impl Model for PanelInput {
 }
 
 impl PanelInput {
-    /// The panel of what was read. No memory.
+    /// What was read, borrowed, as the correction takes it. No memory.
     pub(crate) fn panel(&self) -> Panel
         ensures { result ≡ self.now }
     {
@@ -59,7 +62,9 @@ impl PanelInput {
     }
 }
 
-/// Fetches and reads the rules, then the records with their key, then the rows of the last period with theirs.
+/// Fetches and reads the rules, then the records with their key, then the rows of the last period with
+/// theirs. The first refusal in this order ends the call. It comes where a file can't be fetched or has no
+/// reading, where the key is not in one column, or for want of memory.
 pub(crate) fn fetch_panel<'a, D: Desk>(
     alloc: Global,
     asked: &PanelWords<'a>,
@@ -96,7 +101,8 @@ pub(crate) fn fetch_panel<'a, D: Desk>(
     })
 }
 
-// The surveys of the records and of the file of the last period.
+// The survey of the records' file, and that of the file of the last period. The latter has the fields of
+// `set`, and the former all others.
 fn part_surveys(
     alloc: Global,
     survey: &Survey,

@@ -1,4 +1,8 @@
-//! A run of `panel`.
+//! A run of `panel`: the rules and both files of rows are fetched and read, the records corrected, the
+//! release stored, and its summary printed. The clauses of a run say what is stored and printed where it
+//! did all (`linked`), and with which fault it ended elsewhere (`stopped`). They also say that it did all
+//! where nothing stood in the way (`complete`). What is wrong with a file is told exactly where it is so
+//! (`due`).
 ghost use Rattle.std.specs.Prelude.{◌≡◌, ◌≢◌, if◌then◌else◌, IfErr, IfSome};
 ghost use Rattle.edit_desk.specs.Desk.{PutsOnRecord, Told};
 ghost use Rattle.panel_command.specs.PanelInput.{IsPanelDue, RefusesPanel};
@@ -17,8 +21,10 @@ use panel_release::{PanelRelease, release_panel};
 use run_parts::{Refusal, Status, refuse, store_file, tell};
 use std::alloc::Global;
 
-/// Corrects the records that the words name and leaves their values of the last period alone, and prints how many were changed, or
-/// why the run is refused.
+/// Corrects the records that the words name, leaves their values of the last period alone, and prints the
+/// summary, or why the run is refused. The answer is the status of the run: `Done`, or `SomeUnresolved`
+/// where some record is not released. Else it is that of the refusal, or `WriteFault` where the summary is
+/// not printed.
 pub fn run_panel<D: Desk, P: Printer>(
     alloc: Global,
     asked: &PanelWords,
@@ -37,7 +43,7 @@ pub fn run_panel<D: Desk, P: Printer>(
     }
 }
 
-// How a run ends that did all on the desk.
+// How a run ends whose files are stored: `SomeUnresolved` where some record is not released, else `Done`.
 fn status_of(release: &PanelRelease) -> Status
     ensures { result ≡ (if release.now.whole then Status.Done else Status.SomeUnresolved) }
 {
@@ -48,7 +54,10 @@ fn status_of(release: &PanelRelease) -> Status
     }
 }
 
-// Does on the desk all that the command does there, up to the first fault.
+// Does on the desk all that the command does there, up to the first fault: fetches, corrects, and stores
+// the release, which it then answers. The clauses say which refusals may come (`kind`), what each says of
+// the files (`cause`), and when one has to come (`due`). They also say what the desk has afterwards
+// (`files`), and what was asked of it (`asked`).
 fn correct<'a, D: Desk>(
     alloc: Global,
     asked: &PanelWords<'a>,
@@ -69,7 +78,8 @@ fn correct<'a, D: Desk>(
     Ok(release)
 }
 
-// Stores the proof, the reasons, and then the released file.
+// Stores the proof, the reasons, and then the released file, up to the first that fails. The released file
+// comes last: where it is stored, its proof and its reasons are.
 fn store_release<'a, D: Desk>(
     alloc: Global,
     asked: &PanelWords<'a>,

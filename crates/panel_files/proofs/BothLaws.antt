@@ -1,5 +1,6 @@
 -- The records and the columns of two files, as those who join them need them.
-use Rattle.std.proofs.Common.{◌≡◌, ◌+◌, ◌<◌, ℕ, zero, suc, IsSomeAnd, List, [], ◌∷◌, ◌++◌, Option, None, Some, get_or, length, map, take, refl, ap, ◌∙◌, MatchOption, arith}
+use Rattle.std.proofs.Common.{◌≡◌, ◌+◌, ◌<◌, ℕ, zero, suc, IsSomeAnd, List, [], ◌∷◌, ◌++◌, Option, None, Some, get_or, length, map, take, refl, ap, ◌∙◌}
+use Rattle.std.proofs.Common.{MatchOption, arith}
 use Rattle.std.proofs.lemmas.List.{length-map, take_more}
 use Rattle.std.specs.Option.{option_map_or}
 use Rattle.edit_model.specs.declared.field.Field.{Field}

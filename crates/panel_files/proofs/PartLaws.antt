@@ -1,5 +1,6 @@
 -- The fields of either file: parts of the survey's, and still well formed.
-use Rattle.std.proofs.Common.{◌≡◌, ◌≢◌, ◌+◌, ◌<◌, ◌≤◌, ℕ, suc, Bool, true, false, if◌then◌else◌, All, AllPairs, IsSomeAnd, List, [], ◌∷◌, ◌++◌, codes, drop, get_or, length, map, slice_get, refl, sym, ap, ◌∙◌, add-one, append_assoc, append-nil, arith}
+use Rattle.std.proofs.Common.{◌≡◌, ◌≢◌, ◌+◌, ◌<◌, ◌≤◌, ℕ, suc, Bool, true, false, if◌then◌else◌, All, AllPairs, IsSomeAnd, List, [], ◌∷◌, ◌++◌, codes, drop}
+use Rattle.std.proofs.Common.{get_or, length, map, slice_get, refl, sym, ap, ◌∙◌, add-one, append_assoc, append-nil, arith}
 use Rattle.std.proofs.Math.Seq.{drop-cons}
 use Rattle.std.proofs.lemmas.List.{drop_all, length-map}
 use Rattle.std.proofs.lemmas.List.Elements.{All-cons, All-head, All-map, All-nil, All-tail}

@@ -1,4 +1,5 @@
-//! Copies of fields.
+//! Copies of fields: the surveys of the two files have fields of their own, equal to those of the rule
+//! file.
 ghost use Rattle.std.specs.Prelude.{◌≡◌, ℕ, List, IfOk, drop};
 ghost use Rattle.panel_files.specs.LastFields.{IsLastField, IsLastName, under_last_name};
 
@@ -7,7 +8,7 @@ use edit_model::{Field, Kind, Name};
 use foundation::{OutOfMemory, Sequence};
 use std::alloc::Global;
 
-/// An equal field.
+/// A field equal to this one.
 pub(crate) fn copy_of(alloc: Global, field: &Field) -> Result<Field, OutOfMemory>
     ensures { IfOk result (λ copy. copy ≡ field.now) }
 {
@@ -30,7 +31,8 @@ pub(crate) fn under_last_name(alloc: Global, field: &Field) -> Result<Field, Out
     })
 }
 
-// The name behind `last_`.
+// The name behind `last_` of a last field's name, under which the field stands in the file of the last
+// period.
 fn own_name(name: &Name) -> Name
     requires { (rest : List ℕ) × IsLastName name.now rest }
     ensures { result ≡ drop 5 name.now }
@@ -41,7 +43,7 @@ fn own_name(name: &Name) -> Name
     }
 }
 
-// An equal name.
+// A name equal to this one.
 fn name_of(name: &Name) -> Name
     ensures { result ≡ name.now }
 {
@@ -51,7 +53,7 @@ fn name_of(name: &Name) -> Name
     }
 }
 
-// An equal kind.
+// A kind equal to this one, with copies of its codes where it has some.
 fn kind_of(alloc: Global, kind: &Kind) -> Result<Kind, OutOfMemory>
     ensures { IfOk result (λ copy. copy ≡ kind.now) }
 {
@@ -66,7 +68,7 @@ fn kind_of(alloc: Global, kind: &Kind) -> Result<Kind, OutOfMemory>
     }
 }
 
-// Equal names, in order.
+// Names equal to these, in order.
 fn names_of(alloc: Global, names: &[Name]) -> Result<Vec<Name>, OutOfMemory>
     ensures { IfOk result (λ copies. copies.items ≡ names.now) }
 {

@@ -1,4 +1,4 @@
-//! The rows of a file by their keys.
+//! The rows of a file by their keys: a record finds its row of the last period in such a table.
 ghost use Rattle.std.specs.Prelude.{◌≡◌, ◌<◌, ℕ, All, List, IfOk, OnOk, length};
 ghost use Rattle.std.specs.Map.{lookup};
 ghost use Rattle.std.specs.Str.{bytes_eq};
@@ -12,8 +12,8 @@ use record_text::{Sheet, trimmed};
 use std::alloc::Global;
 use std::marker::Model;
 
-/// The keys of a file's rows, each with the one row that has it, or with none where several have it. A key is found in constant
-/// time.
+/// The keys of a file's rows, each with the one row that has it, or with none where several have it. A key
+/// is found in constant time.
 #[derive(Debug, Drop)]
 pub struct KeyTable {
     rows: IndexMap<Vec<u8>, Option<u32>>,
@@ -28,7 +28,8 @@ impl Model for KeyTable {
 }
 
 impl KeyTable {
-    /// The table of the rows of a sheet. The key of a row is its text in this column, without blanks at its ends.
+    /// The table of the rows of a sheet. The key of a row is its text in this column, without blanks at
+    /// its ends; an empty text is a key like any other.
     pub fn of(alloc: Global, sheet: &Sheet, column: u32) -> Result<KeyTable, OutOfMemory>
         requires { All (λ texts. column < length texts) sheet.now.row_texts }
         ensures { IfOk result (λ table. (key : List ℕ) → row_in table key ≡ row_with_key column key sheet.now.row_texts) }
@@ -53,7 +54,8 @@ impl KeyTable {
         }
     }
 
-    // Notes that the row has the key.
+    // Notes that the row has the key: the table is as before but for this key (`IsNoted`). A key that
+    // several rows have stands in the table without a row.
     fn note(&mut self, alloc: Global, key: &[u8], row_no: u32) -> Result<(), OutOfMemory>
         ensures { OnOk result (IsNoted self.old self.new key.now row_no) }
     {
@@ -63,7 +65,8 @@ impl KeyTable {
         Ok(())
     }
 
-    // The row for a key's entry, where one more row has it: that row, or none where others have it too.
+    // What the table is to have for the key when one row more has it: that row, or None where a row has
+    // it already.
     fn row_after(&self, key: &[u8], row_no: u32) -> Option<u32>
         ensures { result ≡ row_after (lookup (bytes_eq key.now) self.now) row_no }
     {

@@ -1,6 +1,6 @@
-//! The two files of a panel: the records of this period, and the rows of the last one, which are joined to them by a key. Begin
-//! with `specs/LastFields.antt`, which says which fields stand in which file, and `specs/Joined.antt`; in the code with
-//! [`last_set`] and [`KeyTable`].
+//! The two files of a panel: the records of this period, and the rows of the last one. These are joined to
+//! the records by a key. Begin with `specs/LastFields.antt`, which says which fields stand in which file, and
+//! `specs/Joined.antt`; in the code with [`last_set`] and [`KeyTable`].
 #![tactic(auto)]
 
 mod copies;

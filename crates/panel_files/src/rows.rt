@@ -1,4 +1,7 @@
-//! The values of two files as one row.
+//! The values of two files as one row: those of a record, and those of the row of the last period that
+//! has its key. The same is done for columns. A `set` is always that of the survey's last fields. In
+//! contracts, `joined` is two lists as one. It has an element of the last ones for each field of the set,
+//! and one of the own ones for each other field.
 ghost use Rattle.std.specs.Prelude.{◌≡◌, ◌<◌, ◌≤◌, ◌-◌, IfOk, IfSome, IsTrue, false, if◌then◌else◌, length, map, slice_index_or};
 ghost use Rattle.std.specs.Option.{option_map_or};
 ghost use Rattle.edit_model.specs.Rows.{IsRow};
@@ -9,8 +12,9 @@ use edit_model::{Field, FieldSet, Row, Survey, Value};
 use foundation::OutOfMemory;
 use std::alloc::Global;
 
-/// The record of the values of both files: `own` has those of the fields outside of the set, and `last` those of the fields of
-/// the set, where no `last` says that they are all Bad.
+/// The record of the values of both files. `own` has the values of the fields outside of the set, and
+/// `last` those of the fields of the set, both in declared order. Where there is no `last`, the fields of
+/// the set have no value (Bad).
 pub fn both_values(
     alloc: Global,
     survey: &Survey,
@@ -28,7 +32,8 @@ pub fn both_values(
     Ok(Row::new(survey, values))
 }
 
-// The values of all fields.
+// The values of all fields, in declared order, from those of both files. The fields of the set have those
+// of `last`, or Bad where there is no such row.
 fn joined_values(
     alloc: Global,
     fields: &[Field],
@@ -51,8 +56,9 @@ fn joined_values(
     }
 }
 
-/// The column of each field in the rows of the records: those of the fields outside of the set are `columns`, and each field of the
-/// set has the column `past`.
+/// The column of each field in the rows of the records. A field outside of the set has its column in
+/// `columns`, and each field of the set has the column `past`. That is one which no row has, since the
+/// last fields stand in the other file.
 pub fn both_columns(
     alloc: Global,
     survey: &Survey,
@@ -68,7 +74,8 @@ pub fn both_columns(
     join(alloc, fields, set, columns, &pasts)
 }
 
-// Both lists as one: at each field of the set the next of the last ones, and at every other field the next of the own ones.
+// Both lists as one: at each field of the set the next element of `last`, and at every other field the
+// next one of `own`.
 fn join<T: Copy>(
     alloc: Global,
     fields: &[Field],
@@ -91,7 +98,8 @@ fn join<T: Copy>(
     Ok(both)
 }
 
-// The element of the field of this number, where so many of the last ones are taken before it.
+// The element for the field of this number, where `taken` elements of `last` were taken before it, and so
+// `number - taken` of `own`. `is_last` says whether the field is in the set.
 fn element<T: Copy>(own: &[T], last: &[T], number: usize, taken: usize, is_last: bool) -> T
     requires fewer { taken ≤ number }
     requires in_last { IsTrue is_last → taken < length last.now }

@@ -1,4 +1,6 @@
-//! The surveys of the two files. They have no rules.
+//! The surveys of the two files, by which these are read: the fields of each, and no rules. A `set` is
+//! always that of the survey's last fields. In contracts, `own_fields` and `last_fields` are the fields that
+//! stand in the one file and in the other.
 ghost use Rattle.std.specs.Prelude.{◌≡◌, ◌++◌, ◌∷◌, [], IfOk, IsTrue, OnOk, if◌then◌else◌};
 ghost use Rattle.edit_model.specs.Parts.{survey_of};
 ghost use Rattle.edit_model.specs.Surveys.{IsWellFormed};
@@ -9,7 +11,8 @@ use edit_model::{Field, FieldSet, Survey};
 use foundation::OutOfMemory;
 use std::alloc::Global;
 
-/// The survey of the file of the records: the fields outside of the set, which are those of this period.
+/// The survey of the file of the records: the fields outside of the set, which are those of this period,
+/// in declared order.
 pub fn own_survey(alloc: Global, survey: &Survey, set: FieldSet) -> Result<Survey, OutOfMemory>
     ensures own { IfOk result (λ own. own ≡ survey_of (own_fields survey.now.fields set) []) }
     ensures well_formed { IfOk result (λ own. IsWellFormed own) }
@@ -21,8 +24,8 @@ pub fn own_survey(alloc: Global, survey: &Survey, set: FieldSet) -> Result<Surve
     Survey::of(alloc, fields, Vec::new(alloc))
 }
 
-/// The survey of the file of the last period: the fields of the set, which are the last fields, each under the name behind
-/// `last_`.
+/// The survey of the file of the last period. It has the fields of the set, which are the last fields, in
+/// declared order, each under the name behind `last_`.
 pub fn last_survey(alloc: Global, survey: &Survey, set: FieldSet) -> Result<Survey, OutOfMemory>
     requires { AreLastFields survey.now.fields set }
     ensures last { IfOk result (λ last. last ≡ survey_of (last_fields survey.now.fields set) []) }
@@ -35,7 +38,7 @@ pub fn last_survey(alloc: Global, survey: &Survey, set: FieldSet) -> Result<Surv
     Survey::of(alloc, fields, Vec::new(alloc))
 }
 
-// Puts an equal field at the end, where it is not a last field.
+// Puts a copy of the field at the end, where it is not a last field.
 fn push_own(
     alloc: Global,
     fields: &mut Vec<Field>,
@@ -50,7 +53,7 @@ fn push_own(
     Ok(())
 }
 
-// Puts the field, without `last_` in front of its name, at the end, where it is a last field.
+// Puts a copy of the field, without `last_` in front of its name, at the end, where it is a last field.
 fn push_last(
     alloc: Global,
     fields: &mut Vec<Field>,

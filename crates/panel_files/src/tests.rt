@@ -18,7 +18,7 @@ const NAMES: &[(&[u8], bool)] = &[
     (b"last_last_A", true),
 ];
 
-// The survey of numerical fields with these names.
+// A survey of numerical fields with these names. A name that is none ends the test.
 fn survey_of(alloc: Global, names: &[&[u8]]) -> Result<Survey, Fail> {
     let mut fields = Vec::new(alloc);
     for name in names {
@@ -31,6 +31,8 @@ fn survey_of(alloc: Global, names: &[&[u8]]) -> Result<Survey, Fail> {
     Ok(Survey::new(alloc, fields, Vec::new(alloc))?)
 }
 
+// Each name in a survey of its own. `last_1` and `last_number` are none of a last field: a field has no
+// name such as `1` or `number`.
 #[test]
 fn a_last_field_has_a_name_behind_last(rt: HostRuntime) -> Result<(), Fail> {
     for (name, is_last) in NAMES {
@@ -53,7 +55,7 @@ const KEYS: &[(&[u8], Option<u32>)] = &[
     (b"11", None),
 ];
 
-// The table of a file whose keys stand under `id`.
+// The table of the keys of a file, which stand in its column `id`. No field has a column there.
 fn table_of(alloc: Global, bytes: &[u8]) -> Result<KeyTable, Fail> {
     let survey = survey_of(alloc, &[])?;
     let sheet = read_records(alloc, &survey, bytes)?;
@@ -63,6 +65,7 @@ fn table_of(alloc: Global, bytes: &[u8]) -> Result<KeyTable, Fail> {
     }
 }
 
+// Each key of the table is looked up in the file of keys.
 #[test]
 fn a_key_has_a_row_where_one_row_has_it(rt: HostRuntime) -> Result<(), Fail> {
     let table = table_of(rt.alloc(), KEY_FILE)?;
@@ -96,7 +99,8 @@ fn first_of(alloc: Global, survey: &Survey, bytes: &[u8]) -> Result<Option<Row>,
     Ok(Some(sheet.row(0).copy(alloc)?))
 }
 
-// The first row of the records, and that of the last period, as one.
+// The first row of the records `own`, and that of the rows `last` of the last period, if there is one, as
+// one record.
 fn first_of_both(alloc: Global, survey: &Survey, own: &[u8], last: &[u8]) -> Result<Row, Fail> {
     let set = last_set(survey);
     let own_survey = own_survey(alloc, survey, set)?;
@@ -108,6 +112,7 @@ fn first_of_both(alloc: Global, survey: &Survey, own: &[u8], last: &[u8]) -> Res
     }
 }
 
+// The rows of two files, joined, have the values that one file with all columns has.
 #[test]
 fn rows_are_joined_field_by_field(rt: HostRuntime) -> Result<(), Fail> {
     let survey = survey_of(rt.alloc(), FIELDS)?;
@@ -119,7 +124,8 @@ fn rows_are_joined_field_by_field(rt: HostRuntime) -> Result<(), Fail> {
     Ok(())
 }
 
-// The columns of all fields, where the own ones stand in the first columns in order.
+// The columns of all fields, where those of the records stand in `columns`, and the last fields are given
+// the column 9.
 fn columns_of(alloc: Global, survey: &Survey, columns: &[u32]) -> Result<Vec<u32>, Fail> {
     let set = last_set(survey);
     let own = own_survey(alloc, survey, set)?;
@@ -129,6 +135,7 @@ fn columns_of(alloc: Global, survey: &Survey, columns: &[u32]) -> Result<Vec<u32
     Ok(both_columns(alloc, survey, set, columns, 9)?)
 }
 
+// Of the fields A, last_A, last_B and C the records have A in column 1 and C in column 0.
 #[test]
 fn last_fields_stand_past_the_columns(rt: HostRuntime) -> Result<(), Fail> {
     let survey = survey_of(rt.alloc(), FIELDS)?;

@@ -1,4 +1,5 @@
-//! The lines of the survey's rules, with the pins of a record, as edits.
+//! The edits by which a record of a panel is searched. They are the lines of the survey's rules, and
+//! behind them the pins of the record's values at the fixed fields.
 ghost use Rattle.std.specs.Prelude.{◌≡◌, ◌<◌, ◌≤◌, ◌^◌, ◌++◌, [], IfOk, OnOk, if◌then◌else◌, length, map};
 ghost use Rattle.std.specs.Arc.{arc_value};
 ghost use Rattle.edit_line.specs.Shapes.{shape_of};
@@ -17,7 +18,9 @@ use foundation::OutOfMemory;
 use std::alloc::Global;
 use std::sync::Arc;
 
-/// The lines of the survey's rules, and after them the pins of the record's values at the fixed fields, numbered by their places.
+/// The edits of the lines of the survey's rules, and of the pins of the record's values at the fixed
+/// fields. The lines come first, and the pins in path order. Each line's number is its place, from 0.
+/// `lines` are the lines of the rules.
 pub(crate) fn linked_edits(
     alloc: Global,
     survey: &Survey,
@@ -35,7 +38,7 @@ pub(crate) fn linked_edits(
     Ok(Arc::new(alloc, Edits::new(alloc, survey, all)?)?)
 }
 
-// The lines, numbered by their places.
+// Copies of the lines of the rules, in order, each with its place, from 0, as its number.
 fn placed(alloc: Global, lines: &[RuleLine]) -> Result<Vec<(u32, Line)>, OutOfMemory>
     requires { length lines.now ≤ 1000 }
     ensures { IfOk result (λ placed. placed.items ≡ placed_from 0 (map (λ l. l.line) lines.now)) }
@@ -47,7 +50,8 @@ fn placed(alloc: Global, lines: &[RuleLine]) -> Result<Vec<(u32, Line)>, OutOfMe
     Ok(placed)
 }
 
-// Puts the pins of the record's values at the fixed fields last, numbered by their places.
+// Puts the pins of the record's values at the fixed fields behind the lines of the rules, in path order.
+// Each is numbered by its place among all `lines`.
 fn push_pins(
     alloc: Global,
     survey: &Survey,
@@ -66,7 +70,8 @@ fn push_pins(
     Ok(())
 }
 
-// Puts the pin of the record's value at the field last, numbered by its place, if the field is fixed.
+// Puts the pin of the record's value at this one field behind `lines`, numbered by its place. It changes
+// nothing where the field is not fixed.
 fn push_if_fixed(
     alloc: Global,
     survey: &Survey,

@@ -1,4 +1,4 @@
-//! The fixed fields of a record.
+//! Whether a record has a value at each of its fixed fields: without these it is not searched.
 ghost use Rattle.std.specs.Prelude.{◌≡◌, ◌<◌, ◌&&◌, length};
 ghost use Rattle.edit_model.specs.FieldSets.{has_number};
 ghost use Rattle.edit_model.specs.Rows.{IsRow, is_bad, value_of};
@@ -6,7 +6,8 @@ ghost use Rattle.panel_link.specs.LinkedCorrections.{lacks_value};
 
 use edit_model::{FieldSet, Row, Survey};
 
-/// Whether some fixed field has no value. No memory.
+/// Whether some fixed field has no value in the record: then the record can't be linked, and is not
+/// searched. No memory.
 pub(crate) fn lacks_value(survey: &Survey, row: &Row, fixed: FieldSet) -> bool
     requires { IsRow survey.now.fields row.now }
     ensures { result ≡ lacks_value survey.now row.now fixed }
@@ -20,7 +21,7 @@ pub(crate) fn lacks_value(survey: &Survey, row: &Row, fixed: FieldSet) -> bool
     false
 }
 
-// Whether the field is fixed, and has no value.
+// Whether the field is fixed, and has no value in the record.
 fn lacks_at(row: &Row, fixed: FieldSet, field: u32) -> bool
     requires few { field < 64 }
     requires within { field < length row.now }

@@ -1,7 +1,10 @@
+//! What follows from the definitions of pins and of answers, as laws that compute nothing. A proof that
+//! needs them calls the function.
 ghost use Rattle.panel_link.specs.Laws.{LinkedLaw, OneAnswerLaw, PinLaw};
 
-/// What the lines and the pins say of a point, what an answer says of the corrections of a record and what its certificate shows,
-/// and that there is one answer. Nothing is computed.
+/// Three laws, for the proof of `link`; nothing is computed. Where all fixed fields have values, lines and
+/// pins hold at a point exactly where it is a correction that leaves these fields alone. What an answer says
+/// of these corrections is so, and its certificate is a valid tree. A record has one answer within a budget.
 pub fn panel_laws()
     ensures pins { PinLaw }
     ensures linked { LinkedLaw }

@@ -1,6 +1,6 @@
-//! Panel editing: a record of a respondent who answered before is edited against its own values of the last period, which are
-//! never changed. Begin with [`link`] and `specs/LinkedCorrections.antt`; `specs/Pins.antt` says by which lines a field keeps its
-//! value, and what an answer says of the record is in `specs/Laws.antt`.
+//! Panel editing: a record of a respondent who answered before is edited against its own values of the last
+//! period, which are never changed. Begin with [`link`] and `specs/LinkedCorrections.antt`. By which lines a
+//! field keeps its value is in `specs/Pins.antt`, and what an answer says of the record in `specs/Laws.antt`.
 #![tactic(auto)]
 
 mod edits;

@@ -1,4 +1,7 @@
-//! What becomes of one record.
+//! What becomes of one record whose fixed fields keep their values: it is searched by edits with pins,
+//! and its changed fields are given values. In contracts, `IsLinked` says that the answer is one that the
+//! definition has, and `IsOnlyAnswer` that it has no other. `Says` is what the answer says of corrections,
+//! and `IsShown` that its trees are valid. `FollowsOn` is what an outcome of the search leads to.
 ghost use Rattle.std.specs.Prelude.{◌≡◌, ◌≤◌, ◌↔◌, IfOk, Some, map, true};
 ghost use Rattle.std.specs.Arc.{arc_value};
 ghost use Rattle.edit_model.specs.Rows.{IsRow};
@@ -8,7 +11,7 @@ ghost use Rattle.edit_paths.specs.Cases.{IsCase, case_of};
 ghost use Rattle.edit_paths.specs.Outcomes.{outcome_of};
 ghost use Rattle.bound_cert.specs.declared.outcome.Outcome.TheVariants as outcome;
 ghost use Rattle.panel_link.specs.Answers.{FollowsOn, IsLinked, IsOnlyAnswer};
-ghost use Rattle.panel_link.specs.inner.Tellings.{IsFound, TellSome};
+ghost use Rattle.panel_link.specs.inner.Tellings.{IsFound, TellLinkedCorrections};
 ghost use Rattle.panel_link.specs.Laws.{IsShown, Says};
 ghost use Rattle.panel_link.specs.LinkedCorrections.{lacks_value};
 ghost use Rattle.panel_link.specs.declared.linked.Linked.TheVariants as linked;
@@ -30,10 +33,11 @@ use std::alloc::Global;
 use std::sync::Arc;
 use std::sync::ledger::Ledger;
 
-/// What becomes of a record whose fixed fields keep their values: of the corrections that leave these alone, one of the least weight,
-/// with values for its changed fields, and a tree that shows that none is lighter (Fellegi and Holt 1976, with fields that are fixed).
-/// The lines are those of the survey's rules. To them each fixed field adds its pin, a line by which it keeps its value; so a fixed
-/// number is substituted, and not searched. Nothing is searched where a fixed field has no value.
+/// What becomes of a record whose fixed fields keep their values (Fellegi and Holt 1976, with fields that
+/// are fixed). A correction of the least weight that leaves these alone is found, with values and a tree
+/// that shows it. Or there is none, or the search stops, or a fixed field has no value and nothing is
+/// searched. `lines` are those of the rules. Each fixed field adds its pin, a line by which it keeps its
+/// value; so a fixed number is substituted, and not searched.
 pub fn link<L: Ledger>(
     alloc: Global,
     survey: &Survey,
@@ -61,7 +65,9 @@ pub fn link<L: Ledger>(
     search(alloc, survey, &edits, row, budget, steps)
 }
 
-// What follows on the search of the record by these edits, which tell the corrections that leave its fixed fields alone.
+// What follows on the search of the record by these edits: a change with values, no correction, or a stop.
+// It stops by the budget or the range of numbers. The edits tell the corrections that leave the record's
+// fixed fields alone (`TellLinkedCorrections`).
 fn search<L: Ledger>(
     alloc: Global,
     survey: &Survey,
@@ -72,7 +78,7 @@ fn search<L: Ledger>(
 ) -> Result<Linked, OutOfMemory>
     requires row { IsRow survey.now.fields row.now }
     requires shape { (arc_value edits.now).shape ≡ shape_of survey.now.fields }
-    requires told { TellSome survey.now (arc_value edits.now) row.now }
+    requires told { TellLinkedCorrections survey.now (arc_value edits.now) row.now }
     ensures follows { IfOk result (FollowsOn survey.now (arc_value edits.now) row.now
         (outcome_of (case_of survey.now (arc_value edits.now) row.now) budget)) }
     ensures counts { steps.old ≤ steps.new }
@@ -105,7 +111,8 @@ struct Change {
     cert: Cert,
 }
 
-// What follows on a change that was found: its changed fields are given values, or the giving stops.
+// What follows on a change that was found. Its changed fields are given values, without a donor. Where a
+// number leaves the range in that giving, the answer is a stop that tells where.
 fn with_values<L: Ledger>(
     alloc: Global,
     survey: &Survey,
@@ -116,7 +123,7 @@ fn with_values<L: Ledger>(
 ) -> Result<Linked, OutOfMemory>
     requires case { IsCase (case_of survey.now (arc_value edits.now) row.now) }
     requires shape { (arc_value edits.now).shape ≡ shape_of survey.now.fields }
-    requires told { TellSome survey.now (arc_value edits.now) row.now }
+    requires told { TellLinkedCorrections survey.now (arc_value edits.now) row.now }
     requires found { IsFound survey.now (arc_value edits.now) row.now change.path change.weight change.cert }
     ensures follows { IfOk result (FollowsOn survey.now (arc_value edits.now) row.now
         (outcome.Change change.path change.weight change.cert)) }
@@ -147,7 +154,7 @@ fn with_values<L: Ledger>(
     }
 }
 
-// A change whose fields are given no values, and the fault at which the giving stops.
+// The answer for a change whose fields are given no values, with the fault at which the giving stops.
 fn stopped(change: Change, fault: GiftFault) -> Linked
     ensures { result ≡ linked.Stopped (record {
       outcome = outcome.Change change.path change.weight change.cert;

@@ -1,4 +1,6 @@
-//! The lines by which fields keep their values.
+//! Pins: the lines by which fields keep their values. A pin for a number is an equality. A pin for a code
+//! is a line that is never met where the field has another code. In contracts, `placed_from` numbers lines
+//! by their places, and `pin_of` is the pin of a value, if it has one.
 ghost use Rattle.std.specs.Prelude.{◌≡◌, ◌<◌, ◌^◌, ◌++◌, ◌∷◌, [], IfOk, OnOk, length, map, neg_ℤ, slice_index_or, slice_set, true};
 ghost use Rattle.fraction128.specs.Range.{InRange};
 ghost use Rattle.edit_model.specs.Rows.{IsRow, value_of};
@@ -15,7 +17,7 @@ use foundation::OutOfMemory;
 use fraction128::Fraction;
 use std::alloc::Global;
 
-/// Puts a line last, numbered by its place.
+/// Puts a line behind `lines`, with its place there, from 0, as its number.
 pub(crate) fn push_line(lines: &mut Vec<(u32, Line)>, line: Line) -> Result<(), OutOfMemory>
     requires { length lines.old.items < 2 ^ 32 }
     ensures { OnOk result (lines.new.items ≡ lines.old.items ++ (length lines.old.items, line) ∷ []) }
@@ -25,7 +27,8 @@ pub(crate) fn push_line(lines: &mut Vec<(u32, Line)>, line: Line) -> Result<(), 
     Ok(())
 }
 
-/// Puts the pin of the record's value at the field last, numbered by its place, if there is one.
+/// Puts the pin of the record's value at the field behind `lines`, numbered by its place. A field without a
+/// value has no pin, nor has a field with one code only.
 pub(crate) fn push_pin(
     alloc: Global,
     survey: &Survey,
@@ -47,7 +50,8 @@ pub(crate) fn push_pin(
     }
 }
 
-// The number at the field is this one.
+// The line that the number at the field is `x`, which is p/q, whatever the codes are: q * field - p = 0. The
+// numbers of the line are divided by what divides them all.
 fn number_pin(alloc: Global, survey: &Survey, field: u32, x: Fraction) -> Result<Line, OutOfMemory>
     ensures { IfOk result (λ line. rule_lines_of (shape_of survey.now.fields) (number_kept field x) ≡ line ∷ []) }
 {
@@ -59,7 +63,8 @@ fn number_pin(alloc: Global, survey: &Survey, field: u32, x: Fraction) -> Result
     Ok(Line::divided(shape, sets, factors, constant, Relation::Equal))
 }
 
-// The factors of a line in which this field stands alone, with the denominator of the number.
+// The factors, of all numerical fields in order, of a line in which this field stands alone, with the
+// denominator of `x` as its factor.
 fn factors_at(
     alloc: Global,
     survey: &Survey,
@@ -75,14 +80,15 @@ fn factors_at(
     Ok(factors)
 }
 
-// The denominator of the number at the field itself, and 0 elsewhere.
+// The factor of the field `other` in that line: the denominator of `x` at `field` itself, and 0
+// elsewhere.
 fn factor_at(other: u32, field: u32, x: Fraction) -> i128
     ensures { result ≡ own_factor field x other }
 {
     if field == other { x.denominator() } else { 0 }
 }
 
-// The negative of a number.
+// The negative of a number. It is in range, as the number is, so that -2^127 can't come.
 fn negative(number: i128) -> i128
     requires { InRange number }
     ensures value { result ≡ neg_ℤ number }
@@ -91,7 +97,9 @@ fn negative(number: i128) -> i128
     -number
 }
 
-// Puts the line last that the code at the field is never another one, numbered by its place, if the field has another.
+// Puts the line last that the code at the field is never another one than `code`, numbered by its place.
+// Its set at the field has the other codes, and its sum is -1, which is never at least 0. A field with no
+// other code would have an empty set, and has no such line.
 fn push_code_pin(
     alloc: Global,
     survey: &Survey,
@@ -118,7 +126,7 @@ fn push_code_pin(
     Ok(())
 }
 
-// Takes the code out of the set at the place.
+// Takes the code out of the set at `place`, which is its field's among the categorical ones.
 fn leave_others(sets: &mut Vec<u64>, place: usize, code: u8)
     requires place { place < length sets.old.items }
     requires code { code < 64 }
@@ -127,7 +135,7 @@ fn leave_others(sets: &mut Vec<u64>, place: usize, code: u8)
     sets[place] = others_of(sets[place], code);
 }
 
-// The codes of the set but this one.
+// The codes of the set but this one, whether it was in the set or not.
 fn others_of(set: u64, code: u8) -> u64
     requires { code < 64 }
     ensures { result ≡ others_of set code }
@@ -135,7 +143,7 @@ fn others_of(set: u64, code: u8) -> u64
     set & (set ^ (1 << code))
 }
 
-// Whether no set is empty.
+// Whether no set is empty. A line with an empty set would ask nothing of any record.
 fn have_codes(sets: &[u64]) -> bool
     ensures { result ≡ none_is_empty sets.now }
 {

@@ -1,5 +1,6 @@
 -- What is told of one record more, and of all records.
-use Rattle.std.proofs.Common.{◌≡◌, ◌+◌, ◌<◌, ◌≤◌, ℕ, suc, Bool, List, [], ◌∷◌, ◌++◌, codes, get_or, length, take, sym, ap, ◌∙◌, subst, arith, add-zero, append_assoc, length-append}
+use Rattle.std.proofs.Common.{◌≡◌, ◌+◌, ◌<◌, ◌≤◌, ℕ, suc, Bool, List, [], ◌∷◌, ◌++◌, codes, get_or, length, take, sym, ap, ◌∙◌, subst, arith, add-zero}
+use Rattle.std.proofs.Common.{append_assoc, length-append}
 use Rattle.std.specs.List.{AllZip, flat_map}
 use Rattle.std.proofs.lemmas.List.{append-nil, flat_map_more, length-map, length-take-le, map-append, take_all, take_more}
 use Rattle.std.proofs.lemmas.Slice.Zip.{AllZip-long, all_zipped_more}

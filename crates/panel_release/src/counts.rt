@@ -1,4 +1,6 @@
-//! What is counted of the records of a panel.
+//! What is counted of the records of a panel, for the line that is printed and the status of the run. In
+//! contracts, `AreCountsOf` says that the counts are those of records that ended so, and `CountsOne` that
+//! one record more is counted. `IsResolution` says that a record which ended so is counted in this way.
 ghost use Rattle.std.specs.Prelude.{◌≡◌, ◌<◌, ◌≤◌, [], List, IfOk, length, not};
 ghost use Rattle.std.specs.List.{list_any};
 ghost use Rattle.foundation.specs.Limits.{most_records};
@@ -42,7 +44,8 @@ pub(crate) fn resolution_of(survey: &Survey, answer: &Linked) -> Resolution
     }
 }
 
-// How a record is counted that was given the values of this path.
+// How a record is counted that was given the values of this path: a path that changes no field leaves it
+// clean.
 fn path_resolution(survey: &Survey, path: &Path) -> Resolution
     requires { length path.now ≤ length survey.now.fields }
     ensures { IsPathResolution survey.now.fields path.now result }
@@ -56,14 +59,16 @@ fn path_resolution(survey: &Survey, path: &Path) -> Resolution
     }
 }
 
-// Whether the path keeps all its fields. No memory.
+// Whether the path keeps all its fields. A letter that is true is a changed field. No memory.
 fn all_kept(path: &[bool]) -> bool
     ensures { result ≡ all_kept path.now }
 {
     path.iter().all(|changed| !*changed)
 }
 
-/// How many records there are, how many of them are clean, changed and unresolved, and what the changes weigh together.
+/// How many records there are, how many of them are clean, changed and unresolved, and what the changes
+/// weigh together. No count is beyond what the records of a file can have (`AreFew`), so that no sum
+/// overflows.
 #[derive(Clone, Copy)]
 pub(crate) struct Counts {
     pub(crate) records: u32,
@@ -74,7 +79,7 @@ pub(crate) struct Counts {
 }
 
 impl Counts {
-    /// Those of no record. No memory.
+    /// The counts of no record. No memory.
     pub(crate) fn of_none() -> Counts
         ensures counts { (fields : List field.Field) → AreCountsOf fields [] result }
         ensures few { AreFew result }
@@ -89,7 +94,7 @@ impl Counts {
         }
     }
 
-    /// Counts one record more. No memory.
+    /// Counts one record more that is resolved so. No memory.
     pub(crate) fn add(&mut self, resolution: Resolution)
         requires few { AreFew self.old }
         requires more { self.old.records < most_records }
@@ -116,7 +121,8 @@ impl Counts {
         self.unresolved == 0
     }
 
-    /// The line that tells them, without its line feed.
+    /// The line that tells the counts, without its line feed:
+    /// `records N clean N changed N unresolved N weight N`.
     pub(crate) fn summary(&self, alloc: Global) -> Result<Vec<u8>, OutOfMemory>
         ensures { IfOk result (λ line. (survey : SurveyParts) (ends : List row_end.RowEnd) → AreCountsOf survey.fields ends self.now
             → line.items ≡ summary_of survey ends) }

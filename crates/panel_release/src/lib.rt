@@ -1,5 +1,5 @@
-//! What the command `panel` makes of records whose last fields keep their values: the released file, the reasons, the proof, and a
-//! line that counts. Begin with [`release_panel`] and `specs/PanelReleases.antt`.
+//! What the command `panel` makes of records whose last fields keep their values: the released file, the
+//! reasons, the proof, and a line that counts. Begin with [`release_panel`] and `specs/PanelReleases.antt`.
 #![tactic(auto)]
 
 mod counts;

@@ -1,8 +1,11 @@
+//! A panel that is to be corrected: what was read of its files, borrowed.
 use edit_model::{FieldSet, Survey};
 use record_text::Sheet;
 use std::marker::Model;
 
-/// A survey, the set of its last fields, and the two files of its panel, each with the column of the key.
+/// A survey, the set of its last fields, and the two files of its panel. `own` are the records of this
+/// period, and `last` the rows of the last one. `own_key` and `last_key` are the columns of the key in
+/// them, from 0.
 #[derive(Drop)]
 pub struct Panel<'a> {
     pub survey: &'a Survey,

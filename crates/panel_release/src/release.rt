@@ -1,4 +1,6 @@
-//! What is made of the records of a panel.
+//! What is made of the records of a panel. Each is joined with its row of the last period and corrected,
+//! and what becomes of it is told. In contracts, `IsPanelRelease` says that each record has an answer, and
+//! that the files and the summary tell just these. `IsRead` says that both files were read with their key.
 ghost use Rattle.std.specs.Prelude.{◌≡◌, ◌<◌, ℕ, List, IfOk, length, map};
 ghost use Rattle.edit_model.specs.Rows.{IsRow};
 ghost use Rattle.edit_normal.specs.RuleLines.{normal_lines_of};
@@ -31,14 +33,16 @@ pub struct PanelRelease {
     pub reasons: Vec<u8>,
     /// The bytes of the proof.
     pub proof: Vec<u8>,
-    /// A line without its line feed: how many records there are, how many are clean, changed and unresolved, and what the changes
-    /// weigh together.
+    /// A line without its line feed: how many records there are, how many are clean, changed and unresolved,
+    /// and what the changes weigh together.
     pub summary: Vec<u8>,
     /// Whether no record is unresolved.
     pub whole: bool,
 }
 
-/// Corrects each record of the panel, in order, by all rules of the survey and within this budget, and leaves its last fields alone.
+/// Corrects each record of the panel, in order, by all rules of the survey, and leaves its last fields
+/// alone. `budget` is the most work for each record; one that passes it is unresolved. The only fault is
+/// want of memory.
 pub fn release_panel(alloc: Global, panel: &Panel, budget: u64) -> Result<PanelRelease, OutOfMemory>
     requires set { AreLastFields panel.now.survey.fields panel.now.set }
     requires own { (bytes : List ℕ) × IsSheet (own_fields panel.now.survey.fields panel.now.set) bytes panel.now.files.own }
@@ -52,16 +56,7 @@ pub fn release_panel(alloc: Global, panel: &Panel, budget: u64) -> Result<PanelR
     let layout = layout_of(alloc, panel)?;
     let mut told = Told::start(alloc, panel.own, lines.len(), budget)?;
     for row_no in 0..panel.own.len() {
-        let row = both_row(alloc, panel, &table, row_no)?;
-        let answer = answer_for::<Brand>(
-            alloc,
-            panel.survey,
-            &lines,
-            &row,
-            panel.set,
-            budget,
-            Blank::new(1),
-        )?;
+        let answer = answer_at(alloc, panel, &table, &lines, row_no, budget)?;
         told.tell(
             alloc,
             panel.survey,
@@ -74,7 +69,8 @@ pub fn release_panel(alloc: Global, panel: &Panel, budget: u64) -> Result<PanelR
     told.end(alloc)
 }
 
-// Where the fields stand in the rows of the records.
+// Where the fields stand in the rows of the records. The last fields, which stand in the other file, have
+// a column behind all others.
 fn layout_of(alloc: Global, panel: &Panel) -> Result<Layout, OutOfMemory>
     requires { IsRead panel.now }
     ensures layout { IfOk result (IsLayout panel.now.survey.fields) }
@@ -92,7 +88,9 @@ fn layout_of(alloc: Global, panel: &Panel) -> Result<Layout, OutOfMemory>
     Layout::of_columns(alloc, width, columns)
 }
 
-// The values of a record at all fields: its own, and those of the row of the last period that has its key.
+// The values of the record of this number at all fields: its own, and those of its row of the last period.
+// That is the one row that has its key, which `table` finds (`TellsRows`). Where no row has the key, or
+// several have, the last fields have no value.
 fn both_row(alloc: Global, panel: &Panel, table: &KeyTable, row_no: u32) -> Result<Row, OutOfMemory>
     requires read { IsRead panel.now }
     requires table { TellsRows panel.now table.now }
@@ -111,7 +109,38 @@ fn both_row(alloc: Global, panel: &Panel, table: &KeyTable, row_no: u32) -> Resu
     }
 }
 
-// What becomes of a record with these values. Its steps are not counted.
+// What becomes of the record of this number, by its values and those of its row of the last period, which
+// `table` finds. `lines` are those of all rules.
+fn answer_at(
+    alloc: Global,
+    panel: &Panel,
+    table: &KeyTable,
+    lines: &[RuleLine],
+    row_no: u32,
+    budget: u64,
+) -> Result<Linked, OutOfMemory>
+    requires read { IsRead panel.now }
+    requires table { TellsRows panel.now table.now }
+    requires lines { map (λ l. l.line) lines.now ≡ normal_lines_of panel.now.survey }
+    requires there { row_no < length panel.now.files.own.rows }
+    ensures answer { IfOk result (IsAnswerAmong panel.now.survey panel.now.set budget (both_at panel.now row_no)) }
+    ensures end { IfOk result (λ answer. IsEnd panel.now.survey.fields (end_of answer)) }
+{
+    let row = both_row(alloc, panel, table, row_no)?;
+    answer_for::<Brand>(
+        alloc,
+        panel.survey,
+        lines,
+        &row,
+        panel.set,
+        budget,
+        Blank::new(1),
+    )
+}
+
+// What becomes of a record with these values, whose fixed fields keep theirs. `blank` starts a counter of
+// steps for this call, which nobody reads. In the contract, `IsAnswerAmong` says that this is the answer,
+// and that what it says of corrections is so and shown.
 fn answer_for<L: Ledger>(
     alloc: Global,
     survey: &Survey,

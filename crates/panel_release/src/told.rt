@@ -1,4 +1,6 @@
-//! What is told of the records of a panel, one after the other.
+//! What is told of the records of a panel, one after the other. The released file, the reasons file, the
+//! proof and the counts grow with each. In contracts, `TellsOne` says what the three files have more with
+//! one answer, and `CountsOne` that the record is counted.
 ghost use Rattle.std.specs.Prelude.{◌≡◌, ◌<◌, ◌++◌, ℕ, List, IfOk, OnOk, codes, length, not};
 ghost use Rattle.std.specs.List.{list_any};
 ghost use Rattle.foundation.specs.Limits.{most_records};
@@ -23,7 +25,8 @@ use proof_text::row_text;
 use record_text::{RecordWriter, Sheet, Texts};
 use std::alloc::Global;
 
-/// What is told so far: the bytes of the released file, of the reasons and of the proof, and what is counted.
+/// What is told so far: the bytes of the released file, of the reasons file and of the proof, and what is
+/// counted.
 #[derive(Drop)]
 pub(crate) struct Told {
     released: RecordWriter,
@@ -33,8 +36,9 @@ pub(crate) struct Told {
 }
 
 impl Told {
-    /// The headers of both files, and the lines of the proof in front of the records'. Nothing is told of a record. `lines` is how
-    /// many lines the rules have.
+    /// What is told before the first record: the headers of both files, and the lines of the proof in
+    /// front of the records'. The released file has the header of `own`. `lines` is how many lines the
+    /// rules have.
     pub(crate) fn start(
         alloc: Global,
         own: &Sheet,
@@ -56,7 +60,8 @@ impl Told {
         })
     }
 
-    /// Tells what becomes of one record more: it has this number, from 0, these texts were read, and this is its answer. No part of the
+    /// Tells what becomes of one record more. `row_no` is its number, from 0, and `read` are its texts as
+    /// they were read. Where it was given values, these are those of its path (`IsEnd`). No part of the
     /// answer is copied.
     pub(crate) fn tell(
         &mut self,
@@ -82,7 +87,8 @@ impl Told {
         Ok(())
     }
 
-    /// All that was told of all records.
+    /// What is made of all records that were told: the three files, the line that counts, and whether no
+    /// record is unresolved. The proof gets its last line, `end`.
     pub(crate) fn end(self, alloc: Global) -> Result<PanelRelease, OutOfMemory>
         ensures { IfOk result (EndsAs self) }
     {
@@ -103,7 +109,9 @@ impl Told {
         })
     }
 
-    // Writes what is told of one record more, and counts nothing.
+    // Writes what is told of one record more into the three files, and counts nothing. The answers
+    // `NoLast` and `NoCorrection`, which an edit doesn't have, have a cause of their own. Every other
+    // answer is written as in an edit.
     fn write(
         &mut self,
         alloc: Global,
@@ -122,7 +130,7 @@ impl Told {
         match answer {
             Linked::NoLast => self.write_cause(alloc, row_no, b"nolast", b"nolast\n"),
             Linked::NoCorrection { cert } => {
-                let text = row_text(alloc, &uncorrected(cert))?;
+                let text = row_text(alloc, &proof_of_none(cert))?;
                 self.write_cause(alloc, row_no, b"nocorrection", &text)
             }
             Linked::Change {
@@ -151,7 +159,8 @@ impl Told {
         }
     }
 
-    // Writes what is told of a record as of any that ended so.
+    // Writes what is told of a record as an edit tells of any that ended so. That is its released row, if
+    // it has one, its reasons, and its lines of the proof.
     fn write_end(
         &mut self,
         alloc: Global,
@@ -173,7 +182,8 @@ impl Told {
         Ok(())
     }
 
-    // Writes that a record is not released, for this cause. `text` is what the proof has of it.
+    // Writes that a record is not released, for this cause: a line of the reasons, and `text` in the
+    // proof. The released file has nothing of it.
     fn write_cause(
         &mut self,
         alloc: Global,
@@ -190,7 +200,8 @@ impl Told {
     }
 }
 
-// The lines of the proof in front of the records'.
+// The lines of the proof in front of the records': its form, the budget, and how many lines the rules have.
+// The last tells how many records there are.
 fn head_text(alloc: Global, budget: u64, lines: usize, records: u32) -> Result<Vec<u8>, OutOfMemory>
     ensures { IfOk result (λ text. text.items ≡ head_text budget lines records) }
 {
@@ -199,7 +210,8 @@ fn head_text(alloc: Global, budget: u64, lines: usize, records: u32) -> Result<V
     )?.into_bytes())
 }
 
-// How a record ended that was given the values of this change.
+// How a record ended that was given the values of this change, which come from no donor. In `proof` the
+// field `gift` would be the fault at which the giving of values stopped; here there is none.
 fn changed_end(path: Path, weight: u64, cert: Cert, gift: Gift) -> RowEnd
     ensures { result ≡ end_of (linked.Change path weight cert gift) }
 {
@@ -213,7 +225,8 @@ fn changed_end(path: Path, weight: u64, cert: Cert, gift: Gift) -> RowEnd
     }
 }
 
-// How a record ended whose search, or whose giving of values, stopped.
+// How a record ended whose search, or whose giving of values, stopped: it has neither a donor nor values.
+// In `proof` the field `gift` tells the fault of the giving, if that stopped.
 fn stopped_end(proof: RowProof) -> RowEnd
     ensures { result ≡ end_of (linked.Stopped proof) }
 {
@@ -224,8 +237,9 @@ fn stopped_end(proof: RowProof) -> RowEnd
     }
 }
 
-// What was found of a record for which there is no correction.
-fn uncorrected(cert: Cert) -> RowProof
+// What was found of a record for which there is no correction. The proof has of it what the proof of an
+// edit has of a record that no values correct.
+fn proof_of_none(cert: Cert) -> RowProof
     ensures { result ≡ proof_of (linked.NoCorrection cert) }
 {
     RowProof {

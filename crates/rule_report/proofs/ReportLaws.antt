@@ -12,7 +12,8 @@ none-left : (fields : List Field) (number : ℕ) (lines : List LineParts) → re
 none-left fields number [] = refl
 none-left fields number (line ∷ lines) = refl
 
-pub texts-end : (fields : List Field) (number place : ℕ) (lines : List LineParts) (verdicts : List Verdict) (texts all : List (List ℕ)) → min (length lines) (length verdicts) ≤ place
+pub texts-end : (fields : List Field) (number place : ℕ) (lines : List LineParts) (verdicts : List Verdict) (texts all : List (List ℕ))
+    → min (length lines) (length verdicts) ≤ place
     → texts ++ reports_from fields number (drop place lines) (drop place verdicts) ≡ all → texts ≡ all
 texts-end fields number place lines verdicts texts all past rest = sym (append-nil texts) ∙ ap (λ (ts : List (List ℕ)). texts ++ ts) (sym left) ∙ rest
   where
@@ -20,5 +21,6 @@ texts-end fields number place lines verdicts texts all past rest = sym (append-n
     left = by (cases_lt place (length lines))
       where
         by : (place < length lines) ⊎ (length lines ≤ place) → reports_from fields number (drop place lines) (drop place verdicts) ≡ []
-        by (inl below) = ap (λ (vs : List Verdict). reports_from fields number (drop place lines) vs) (drop_all place verdicts (omega (arith, past, below))) ∙ none-left fields number (drop place lines)
+        by (inl below) = ap (λ (vs : List Verdict). reports_from fields number (drop place lines) vs) (drop_all place verdicts (omega (arith, past, below)))
+            ∙ none-left fields number (drop place lines)
         by (inr past_lines) = ap (λ (ls : List LineParts). reports_from fields number ls (drop place verdicts)) (drop_all place lines past_lines)

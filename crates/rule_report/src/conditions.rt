@@ -1,4 +1,4 @@
-//! The sets of a line as conditions.
+//! The sets of a line as conditions of a rule, for the text of a line.
 ghost use Rattle.std.specs.Prelude.{◌≡◌, ◌++◌, ◌∷◌, [], ◌==◌, IfOk, OnOk, false, if◌then◌else◌, length};
 ghost use Rattle.edit_model.specs.declared.rule.Test.TheVariants as test;
 ghost use Rattle.edit_line.specs.Shapes.{code_fields, shape_of, whole_sets};
@@ -9,7 +9,8 @@ use edit_model::{Survey, Test};
 use foundation::OutOfMemory;
 use std::alloc::Global;
 
-/// For each categorical field whose set is not whole, that its code is in the set.
+/// The conditions of a line: for each categorical field whose set is not whole, that its code is in the
+/// set. A whole set asks nothing.
 pub(crate) fn conditions_of(
     alloc: Global,
     survey: &Survey,
@@ -22,7 +23,8 @@ pub(crate) fn conditions_of(
     tests_of(alloc, survey.codes(), line.sets(), &wholes)
 }
 
-// The conditions of these fields, by the set of each and the set of all its codes.
+// The conditions of these fields, from the set of each (`sets`) and the set of all its codes (`wholes`),
+// place by place.
 fn tests_of(
     alloc: Global,
     fields: &[u32],
@@ -40,7 +42,7 @@ fn tests_of(
     Ok(tests)
 }
 
-// Puts last that the field's code is in the set, where that is not whole.
+// Puts last that the field's code is in the set, where that is not `whole`, the set of all its codes.
 fn push_test(tests: &mut Vec<Test>, field: u32, set: u64, whole: u64) -> Result<(), OutOfMemory>
     ensures { OnOk result (tests.new.items ≡ tests.old.items ++ (if set == whole then [] else test.Codes field false set ∷ [])) }
 {

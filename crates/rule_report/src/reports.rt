@@ -1,4 +1,5 @@
-//! The lines of a report.
+//! The lines of a report on rules. Each line of the rules has its number, its verdict and its text, and
+//! behind a dropped one stand its steps.
 ghost use Rattle.std.specs.Prelude.{◌≡◌, ◌++◌, ◌∷◌, IfOk, OnOk, codes, map};
 ghost use Rattle.edit_line.specs.Lines.{AreOver};
 ghost use Rattle.edit_line.specs.Shapes.{shape_of};
@@ -15,8 +16,10 @@ use proof_text::write_step;
 use redundancy::{Verdict, Why};
 use std::alloc::Global;
 
-/// What is printed of lines over the survey's fields and the verdicts on them: of each line its number, from
-/// 1, what becomes of it and its text, and behind a dropped one the steps that refute its negation.
+/// What is printed of lines over the survey's fields and the verdicts on them, of which each is on the
+/// line at its place. For each line that is its number, from 1, what becomes of it, and its text. Behind
+/// a dropped one stand the steps that refute its negation. Each text is one line without its line feed.
+/// Where one list is shorter, the rest of the other is left out.
 pub fn report(
     alloc: Global,
     survey: &Survey,
@@ -34,7 +37,8 @@ pub fn report(
     Ok(texts)
 }
 
-// Puts the texts of a line last.
+// Puts the texts of one line last: its head, and the steps of a dropped one. `number` is the line's,
+// from 1.
 fn push_texts(
     alloc: Global,
     texts: &mut Vec<Vec<u8>>,
@@ -53,7 +57,8 @@ fn push_texts(
     }
 }
 
-// The number of a line, what becomes of it, and its text.
+// The head of a line, such as `3 dropped Staff - 9 >= 0`: its number, from 1, what becomes of it, and
+// its text.
 fn head_text(
     alloc: Global,
     survey: &Survey,
@@ -74,7 +79,7 @@ fn head_text(
     Ok(text)
 }
 
-// What becomes of a line, and why a line is kept.
+// The words for what becomes of a line, and for a line that is kept, why.
 fn verdict_text(verdict: &Verdict) -> &'static [u8]
     ensures { result.now ≡ verdict_text verdict.now }
 {
@@ -87,7 +92,7 @@ fn verdict_text(verdict: &Verdict) -> &'static [u8]
     }
 }
 
-// Puts the texts of the steps last.
+// Puts the texts of the steps last, one a line.
 fn push_steps(alloc: Global, texts: &mut Vec<Vec<u8>>, steps: &[Step]) -> Result<(), OutOfMemory>
     ensures { OnOk result (texts_in texts.new.items ≡ texts_in texts.old.items ++ map step_text steps.now) }
 {
@@ -97,7 +102,7 @@ fn push_steps(alloc: Global, texts: &mut Vec<Vec<u8>>, steps: &[Step]) -> Result
     Ok(())
 }
 
-// A step behind two spaces.
+// The text of a step, as in a proof file, behind two spaces, which set it off from the lines.
 fn step_text(alloc: Global, step: &Step) -> Result<Vec<u8>, OutOfMemory>
     ensures { IfOk result (λ text. text.items ≡ step_text step.now) }
 {

@@ -1,4 +1,4 @@
-//! The linear part of a line.
+//! The linear part of a line as a text: its sum, and how that compares with 0.
 ghost use Rattle.std.specs.Prelude.{◌≡◌, ◌++◌, ◌&&◌, IfOk, OnOk, length, pos};
 ghost use Rattle.std.specs.Ordering.{int_eq};
 ghost use Rattle.edit_language.specs.Printing.{linear_text, sum_text};
@@ -11,7 +11,7 @@ use edit_line::{Line, Relation};
 use edit_model::{Compare, Field, Survey};
 use foundation::OutOfMemory;
 
-/// Appends the sum of the line, and its comparison with 0.
+/// Appends the sum of the line, and its comparison with 0, such as `6 Turnover - 10 Profit >= 0`.
 pub(crate) fn write_linear(
     text: &mut Vec<u8>,
     survey: &Survey,
@@ -31,7 +31,7 @@ pub(crate) fn write_linear(
     Ok(())
 }
 
-// How the sum of a line is compared with 0.
+// How the sum of a line with this relation is compared with 0.
 fn comparison(relation: Relation) -> Compare
     ensures { result ≡ compare_of relation }
 {
@@ -42,7 +42,8 @@ fn comparison(relation: Relation) -> Compare
     }
 }
 
-// Appends the terms of the fields with these numbers whose factors are not 0, and the constant.
+// Appends the terms of a sum and its constant. `factors` are those of the fields whose numbers are
+// `numbers`, place by place; a field with the factor 0 has no term.
 fn write_sum(
     text: &mut Vec<u8>,
     fields: &[Field],
@@ -60,7 +61,8 @@ fn write_sum(
     write_constant(text, first, constant)
 }
 
-// Appends the term of a field whose factor is not 0. Whether the next term is still the first.
+// Appends the term of a field, but none where its factor is 0. `first` says whether no term stands before
+// it, which decides how its sign is written; the answer says that of the next term.
 fn write_factor(
     text: &mut Vec<u8>,
     first: bool,

@@ -1,5 +1,6 @@
 -- The calls of the parts of a run, one after the other.
-use Rattle.std.proofs.Common.{◌≡◌, ◌⊎◌, ◌∙◌, ◌+◌, ℕ, zero, suc, List, [], ◌∷◌, ◌++◌, Option, Result, Ok, Err, IfErr, ap, append-nil, append_assoc, arith, inl, inr, length, refl, subst, sym, take, take_all}
+use Rattle.std.proofs.Common.{◌≡◌, ◌⊎◌, ◌∙◌, ◌+◌, ℕ, zero, suc, List, [], ◌∷◌, ◌++◌, Option, Result, Ok, Err, IfErr, ap, append-nil, append_assoc, arith, inl}
+use Rattle.std.proofs.Common.{inr, length, refl, subst, sym, take, take_all}
 use Rattle.std.specs.Prelude.{⊤}
 use Rattle.std.proofs.Math.Seq.{take-append-add}
 use Rattle.run_parts.specs.Refused.{check_fault}
@@ -16,16 +17,19 @@ use Rattle.run_parts.proofs.ToldLaws.{less-told, then-told}
 -- ---- calls on record
 
 -- the calls of two parts
-pub then-calls : (a b c : Option (List Asked)) {P Q : List Asked → Type 0} (R : List Asked → Type 0) → ((x y : List Asked) → P x → Q y → R (x ++ y)) → PutsOnRecord a b P → PutsOnRecord b c Q → PutsOnRecord a c R
+pub then-calls : (a b c : Option (List Asked)) {P Q : List Asked → Type 0} (R : List Asked → Type 0) → ((x y : List Asked) → P x → Q y → R (x ++ y))
+    → PutsOnRecord a b P → PutsOnRecord b c Q → PutsOnRecord a c R
 then-calls a b c R both p q =
     then-told a b c (λ x y z h k. (h.0 ++ k.0, k.1 ∙ ap (λ (l : List Asked). l ++ k.0) h.1 ∙ append_assoc x h.0 k.0, both h.0 k.0 h.2 k.2)) p q
 
 -- the same calls, of which less is said
-pub less-calls : (a b : Option (List Asked)) {P : List Asked → Type 0} (R : List Asked → Type 0) → ((x : List Asked) → P x → R x) → PutsOnRecord a b P → PutsOnRecord a b R
+pub less-calls : (a b : Option (List Asked)) {P : List Asked → Type 0} (R : List Asked → Type 0) → ((x : List Asked) → P x → R x) → PutsOnRecord a b P
+    → PutsOnRecord a b R
 less-calls a b R less p = less-told a b (λ x y h. (h.0, h.1, less h.0 h.2)) p
 
 -- all calls of two parts
-pub all-calls : (a b c : Option (List Asked)) (x y : List Asked) → PutsOnRecord a b (λ calls. calls ≡ x) → PutsOnRecord b c (λ calls. calls ≡ y) → PutsOnRecord a c (λ calls. calls ≡ x ++ y)
+pub all-calls : (a b c : Option (List Asked)) (x y : List Asked) → PutsOnRecord a b (λ calls. calls ≡ x) → PutsOnRecord b c (λ calls. calls ≡ y)
+    → PutsOnRecord a c (λ calls. calls ≡ x ++ y)
 all-calls a b c x y p q = then-calls a b c (λ calls. calls ≡ x ++ y) (λ s t e f. ap (λ (l : List Asked). l ++ t) e ∙ ap (λ (l : List Asked). x ++ l) f) p q
 
 -- ---- a call among others
@@ -86,9 +90,11 @@ module _ (before order rest calls : List Asked) where
   calls-between f kind h = absurd kind
 
 -- the same, where those of the parts before are on record
-pub behind-calls : (a b c : Option (List Asked)) (before order rest : List Asked) (f : Fault) → IsOfCall f → PutsOnRecord a b (λ calls. calls ≡ before) → PutsOnRecord b c (AreCallsTo order f) → PutsOnRecord a c (AreCallsTo (before ++ (order ++ rest)) f)
+pub behind-calls : (a b c : Option (List Asked)) (before order rest : List Asked) (f : Fault) → IsOfCall f → PutsOnRecord a b (λ calls. calls ≡ before)
+    → PutsOnRecord b c (AreCallsTo order f) → PutsOnRecord a c (AreCallsTo (before ++ (order ++ rest)) f)
 behind-calls a b c before order rest f kind p q =
-    then-calls a b c (AreCallsTo (before ++ (order ++ rest)) f) (λ x y e h. subst (λ (l : List Asked). AreCallsTo (before ++ (order ++ rest)) f (l ++ y)) (sym e) (calls-between before order rest y f kind h)) p q
+    then-calls a b c (AreCallsTo (before ++ (order ++ rest)) f) (λ x y e h. subst (λ (l : List Asked). AreCallsTo (before ++ (order ++ rest)) f (l ++ y))
+    (sym e) (calls-between before order rest y f kind h)) p q
 
 -- the same, where the later part stores, and may have met no fault
 pub calls-then : {A : Type 0} (a b c : Option (List Asked)) (before order : List Asked) (r : Result A Fault) → IfErr r IsOfStores
@@ -98,7 +104,8 @@ calls-then a b c before order (Err f) kind p q =
     subst (λ (l : List Asked). PutsOnRecord a c (AreCallsTo (before ++ l) f)) (append-nil order) (behind-calls a b c before order [] f (of-stores f kind) p q)
 
 -- the calls up to a refusal of the rules, which are fetched first
-pub rules-calls : (name : List ℕ) (rest calls : List Asked) (f : Fault) → IsOfRules name f → AreCallsTo (fetched name ∷ []) f calls → AreCallsTo (fetched name ∷ rest) f calls
+pub rules-calls : (name : List ℕ) (rest calls : List Asked) (f : Fault) → IsOfRules name f → AreCallsTo (fetched name ∷ []) f calls
+    → AreCallsTo (fetched name ∷ rest) f calls
 rules-calls name rest calls (fault.Rules line k) kind h = h
 rules-calls name rest calls (fault.Read n) kind h = calls-between [] (fetched name ∷ []) rest calls (fault.Read n) tt h
 rules-calls name rest calls (fault.TooLong n) kind h = calls-between [] (fetched name ∷ []) rest calls (fault.TooLong n) tt h
@@ -106,7 +113,8 @@ rules-calls name rest calls fault.OutOfMemory kind h = calls-between [] (fetched
 rules-calls name rest calls f kind h = absurd kind
 
 -- and of the records, which are fetched second
-pub records-calls : (first name : List ℕ) (rest calls : List Asked) (f : Fault) → IsOfRecords name f → AreCallsTo (fetched name ∷ []) f calls → AreCallsTo (fetched first ∷ fetched name ∷ rest) f (fetched first ∷ calls)
+pub records-calls : (first name : List ℕ) (rest calls : List Asked) (f : Fault) → IsOfRecords name f → AreCallsTo (fetched name ∷ []) f calls
+    → AreCallsTo (fetched first ∷ fetched name ∷ rest) f (fetched first ∷ calls)
 records-calls first name rest calls (fault.Records what) kind h = ap (λ (l : List Asked). fetched first ∷ l) h
 records-calls first name rest calls (fault.Read n) kind h = calls-between (fetched first ∷ []) (fetched name ∷ []) rest calls (fault.Read n) tt h
 records-calls first name rest calls (fault.TooLong n) kind h = calls-between (fetched first ∷ []) (fetched name ∷ []) rest calls (fault.TooLong n) tt h
@@ -140,9 +148,11 @@ input-calls rules records rest calls f kind h = absurd kind
 
 -- ---- all calls, and then perhaps want of memory
 
-pub memory-calls : {A : Type 0} (a b : Option (List Asked)) (order : List Asked) (r : Result A Fault) → IfErr r (λ f. f ≡ fault.OutOfMemory) → PutsOnRecord a b (λ calls. calls ≡ order) → PutsOnRecord a b (AreCallsOf order r)
+pub memory-calls : {A : Type 0} (a b : Option (List Asked)) (order : List Asked) (r : Result A Fault) → IfErr r (λ f. f ≡ fault.OutOfMemory)
+    → PutsOnRecord a b (λ calls. calls ≡ order) → PutsOnRecord a b (AreCallsOf order r)
 memory-calls a b order (Ok done) memory p = p
-memory-calls a b order (Err f) memory p = less-calls a b (AreCallsTo order f) (λ x e. rw memory (length order, e ∙ sym (take_all (length order) order (omega arith)))) p
+memory-calls a b order (Err f) memory p =
+    less-calls a b (AreCallsTo order f) (λ x e. rw memory (length order, e ∙ sym (take_all (length order) order (omega arith)))) p
 
 pub memory-faults : {A : Type 0} (r : Result A Fault) (faults : ℕ) → IfErr r (λ f. f ≡ fault.OutOfMemory) → faults_after r faults ≡ faults
 memory-faults (Ok done) faults memory = refl
@@ -153,6 +163,9 @@ as-told : (order : List Asked) (told : CheckFault) → AreCallsTo order (check_f
 as-told order (check.Rejected line why) = refl
 as-told order check.OutOfMemory = (length order, sym (take_all (length order) order (omega arith)))
 
-pub told-calls : (a b : Option (List Asked)) (order : List Asked) (told : CheckFault) (f : Fault) → (f ≡ check_fault told) ⊎ (f ≡ fault.OutOfMemory) → PutsOnRecord a b (λ calls. calls ≡ order) → PutsOnRecord a b (AreCallsTo order f)
-told-calls a b order told f (inl same) p = less-calls a b (AreCallsTo order f) (λ x e. rw same (subst (AreCallsTo order (check_fault told)) (sym e) (as-told order told))) p
-told-calls a b order told f (inr memory) p = less-calls a b (AreCallsTo order f) (λ x e. rw memory (subst (AreCallsTo order fault.OutOfMemory) (sym e) (as-told order check.OutOfMemory))) p
+pub told-calls : (a b : Option (List Asked)) (order : List Asked) (told : CheckFault) (f : Fault) → (f ≡ check_fault told) ⊎ (f ≡ fault.OutOfMemory)
+    → PutsOnRecord a b (λ calls. calls ≡ order) → PutsOnRecord a b (AreCallsTo order f)
+told-calls a b order told f (inl same) p =
+    less-calls a b (AreCallsTo order f) (λ x e. rw same (subst (AreCallsTo order (check_fault told)) (sym e) (as-told order told))) p
+told-calls a b order told f (inr memory) p =
+    less-calls a b (AreCallsTo order f) (λ x e. rw memory (subst (AreCallsTo order fault.OutOfMemory) (sym e) (as-told order check.OutOfMemory))) p

@@ -16,7 +16,8 @@ raised-more n room same =
     omega (arith, least, same)
 
 -- where no fault is met, a refusal that says nothing of the files is want of memory
-pub memory-left : (run : Run) (f : Fault) → IsBeside f → run.after.faults ≡ faults_by f run.before.faults → IsFaultless run → fault_status f ≡ status.OutOfMemory
+pub memory-left : (run : Run) (f : Fault) → IsBeside f → run.after.faults ≡ faults_by f run.before.faults → IsFaultless run → fault_status f
+    ≡ status.OutOfMemory
 memory-left run (fault.Read name) beside faults none = absurd (raised-more run.before.faults none.room (sym faults ∙ none.faults))
 memory-left run (fault.Write name) beside faults none = absurd (raised-more run.before.faults none.room (sym faults ∙ none.faults))
 memory-left run fault.OutOfMemory beside faults none = refl

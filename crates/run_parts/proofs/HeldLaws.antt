@@ -22,15 +22,18 @@ not_longer files name most h long =
     omega (arith, short, more)
 
 -- two claims on one file are claims on the same bytes
-same_claim : {P Q : List ℕ → Type 0} (files : Files) (name : List ℕ) (most : ℕ) (p : HoldsWithin (Some files) name most P) → (q : HoldsWithin (Some files) name most Q) → P q.bytes
+same_claim : {P Q : List ℕ → Type 0} (files : Files) (name : List ℕ) (most : ℕ) (p : HoldsWithin (Some files) name most P)
+    → (q : HoldsWithin (Some files) name most Q) → P q.bytes
 same_claim {P} files name most p q = subst P (same_bytes (files name) p.bytes q.bytes p.held q.held) p.claim
 
 -- the claim of a file of which more is said
-pub weaker : {P Q : List ℕ → Type 0} (files : Option Files) (name : List ℕ) (most : ℕ) → ((bytes : List ℕ) → P bytes → Q bytes) → HoldsWithin files name most P → HoldsWithin files name most Q
+pub weaker : {P Q : List ℕ → Type 0} (files : Option Files) (name : List ℕ) (most : ℕ) → ((bytes : List ℕ) → P bytes → Q bytes) → HoldsWithin files name most P
+    → HoldsWithin files name most Q
 weaker files name most less h = record { bytes = h.bytes; held = h.held; short = h.short; claim = less h.bytes h.claim }
 
 -- a file meets a claim that its bytes meet
-pub holds : (P : List ℕ → Type 0) (files : Option Files) (name : List ℕ) (most : ℕ) (bytes : List ℕ) → HoldsBytes files name most bytes → P bytes → HoldsWithin files name most P
+pub holds : (P : List ℕ → Type 0) (files : Option Files) (name : List ℕ) (most : ℕ) (bytes : List ℕ) → HoldsBytes files name most bytes → P bytes
+    → HoldsWithin files name most P
 holds P files name most bytes h claim = weaker files name most (λ held same. subst P (sym same) claim) h
 
 -- ---- readings
@@ -40,16 +43,20 @@ pub one_survey : (files : Files) (name : List ℕ) (a b : SurveyParts) → Holds
 one_survey files name a b ha hb = hb.claim.only a (same_claim files name _ ha hb).read
 
 -- a file of rules does not read as none
-pub not_unread : (files : Files) (name : List ℕ) (survey : SurveyParts) → HoldsRules (Some files) name survey → HoldsText (Some files) name (λ bytes. (s : SurveyParts) → ¬ IsRuleText bytes s) → ⊥
+pub not_unread : (files : Files) (name : List ℕ) (survey : SurveyParts) → HoldsRules (Some files) name survey
+    → HoldsText (Some files) name (λ bytes. (s : SurveyParts) → ¬ IsRuleText bytes s) → ⊥
 not_unread files name survey read unread = unread.claim survey (same_claim files name _ read unread).read
 
 -- a file of records reads as one sheet
-pub one_sheet : (files : Files) (name : List ℕ) (fields : List Field) (a b : SheetParts) → HoldsRecords (Some files) name fields a → HoldsRecords (Some files) name fields b → a ≡ b
+pub one_sheet : (files : Files) (name : List ℕ) (fields : List Field) (a b : SheetParts) → HoldsRecords (Some files) name fields a
+    → HoldsRecords (Some files) name fields b → a ≡ b
 one_sheet files name fields a b ha hb = hb.claim.only a (same_claim files name _ ha hb).read
 
 -- a file of records does not read as none
-pub not_unread_records : (files : Files) (name : List ℕ) (a b : SurveyParts) (s : SheetParts) → a ≡ b → HoldsRecords (Some files) name a.fields s → HoldsText (Some files) name (λ bytes. (t : SheetParts) → ¬ IsSheet b.fields bytes t) → ⊥
-not_unread_records files name a b s same read unread = unread.claim s (subst (λ (survey : SurveyParts). IsSheet survey.fields unread.bytes s) same (same_claim files name _ read unread).read)
+pub not_unread_records : (files : Files) (name : List ℕ) (a b : SurveyParts) (s : SheetParts) → a ≡ b → HoldsRecords (Some files) name a.fields s
+    → HoldsText (Some files) name (λ bytes. (t : SheetParts) → ¬ IsSheet b.fields bytes t) → ⊥
+not_unread_records files name a b s same read unread = unread.claim s (subst (λ (survey : SurveyParts). IsSheet survey.fields unread.bytes s) same
+    (same_claim files name _ read unread).read)
 
 -- ---- a release
 

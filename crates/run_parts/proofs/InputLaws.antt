@@ -79,12 +79,16 @@ module _ (rules records : List ℕ) (files : Files) where
     records-due f kind why = absurd kind
 
   -- files that were read are refused for no fault but one that says nothing of them
-  pub read-beside : (f : Fault) (survey : SurveyParts) (s : SheetParts) → HoldsRules (Some files) rules survey → HoldsRecords (Some files) records survey.fields s → RefusesInput rules records (Some files) f → IsBeside f
+  pub read-beside : (f : Fault) (survey : SurveyParts) (s : SheetParts) → HoldsRules (Some files) rules survey
+      → HoldsRecords (Some files) records survey.fields s → RefusesInput rules records (Some files) f → IsBeside f
   read-beside (fault.Rules line k) survey s hr hs why = not_unread files rules survey hr (weaker (Some files) rules most_bytes (λ bytes no. no.unread) why)
   read-beside (fault.Records what) survey s hr hs (other, held, unread) =
-      not_unread_records files records survey other s (one_survey files rules survey other hr held) hs (weaker (Some files) records most_bytes (λ bytes none. none.unread) unread)
-  read-beside (fault.TooLong name) survey s hr hs (inl same, long) = not_longer files rules most_bytes hr (subst (λ (n : List ℕ). IsLonger files n most_bytes) same long)
-  read-beside (fault.TooLong name) survey s hr hs (inr (same, (other, held, done)), long) = not_longer files records most_bytes hs (subst (λ (n : List ℕ). IsLonger files n most_bytes) same long)
+      not_unread_records files records survey other s (one_survey files rules survey other hr held) hs
+      (weaker (Some files) records most_bytes (λ bytes none. none.unread) unread)
+  read-beside (fault.TooLong name) survey s hr hs (inl same, long) = not_longer files rules most_bytes hr
+      (subst (λ (n : List ℕ). IsLonger files n most_bytes) same long)
+  read-beside (fault.TooLong name) survey s hr hs (inr (same, (other, held, done)), long) =
+      not_longer files records most_bytes hs (subst (λ (n : List ℕ). IsLonger files n most_bytes) same long)
   read-beside (fault.Read name) survey s hr hs why = tt
   read-beside (fault.Write name) survey s hr hs why = tt
   read-beside fault.OutOfMemory survey s hr hs why = tt
@@ -94,7 +98,8 @@ module _ (rules records : List ℕ) (files : Files) where
 
 module _ (rules records : List ℕ) (files : Option Files) where
   -- records are refused for what their reading says, where the rules were read
-  pub records-refuse : (survey : SurveyParts) → HoldsRules files rules survey → (f : Fault) → IsOfRecords records f → RefusesRecords records survey.fields files f → RefusesInput rules records files f
+  pub records-refuse : (survey : SurveyParts) → HoldsRules files rules survey → (f : Fault) → IsOfRecords records f
+      → RefusesRecords records survey.fields files f → RefusesInput rules records files f
   records-refuse survey hr (fault.Records what) kind why = (survey, hr, why)
   records-refuse survey hr (fault.Read name) kind why = inr (kind, (survey, hr, tt))
   records-refuse survey hr (fault.TooLong name) kind why = (inr (kind, (survey, hr, tt)), why)

@@ -16,7 +16,8 @@ Texts = List (List ℕ × List ℕ)
 -- ---- one store
 
 -- a store that failed leaves its one file cut off or as it was
-pub one-left : (name bytes : List ℕ) (a b : Option Files) → Told a b (λ old new. IsCutOff name bytes old new × SameElsewhere old new name) → Told a b (LeavesOf ((name, bytes) ∷ []) (fault.Write name))
+pub one-left : (name bytes : List ℕ) (a b : Option Files) → Told a b (λ old new. IsCutOff name bytes old new × SameElsewhere old new name)
+    → Told a b (LeavesOf ((name, bytes) ∷ []) (fault.Write name))
 one-left name bytes a b h = less-told a b (λ old new left. record {
   front = [];
   bytes = bytes;
@@ -34,9 +35,11 @@ stored-then : (first second : Texts) (a b c : Files) → AreStored first a b →
 stored-then [] second a b c h k = subst (λ (f : Files). AreStored second f c) h k
 stored-then (file ∷ first) second a b c (between, puts, rest) k = (between, puts, stored-then first second between b c rest k)
 
-some-then : (first second : Texts) (count : ℕ) (a b c : Files) → AreStored first a b → AreStored (take count second) b c → (more : ℕ) × AreStored (take more (first ++ second)) a c
+some-then : (first second : Texts) (count : ℕ) (a b c : Files) → AreStored first a b → AreStored (take count second) b c → (more : ℕ)
+    × AreStored (take more (first ++ second)) a c
 some-then [] second count a b c h k = (count, subst (λ (f : Files). AreStored (take count second) f c) h k)
-some-then (file ∷ first) second count a b c (between, puts, rest) k = let more = some-then first second count between b c rest k in (suc more.0, (between, puts, more.1))
+some-then (file ∷ first) second count a b c (between, puts, rest) k = let more = some-then first second count between b c rest k in
+    (suc more.0, (between, puts, more.1))
 
 module _ (first second : Texts) where
   -- what is left where the later of two groups of files met a fault
@@ -75,6 +78,7 @@ module _ (first second : Texts) where
   pub stores-both : (a b c : Option Files) → Told a b (AreStored first) → Told b c (AreStored second) → Told a c (AreStored (first ++ second))
   stores-both a b c h k = then-told a b c (λ x y z p q. stored-then first second x y z p q) h k
 
-  pub stores-then : {A : Type 0} (r : Result A Fault) (a b c : Option Files) → IfErr r IsOfStores → Told a b (AreStored first) → Told b c (StoresOf second r) → Told a c (StoresOf (first ++ second) r)
+  pub stores-then : {A : Type 0} (r : Result A Fault) (a b c : Option Files) → IfErr r IsOfStores → Told a b (AreStored first) → Told b c (StoresOf second r)
+      → Told a c (StoresOf (first ++ second) r)
   stores-then (Ok end) a b c kind h k = stores-both a b c h k
   stores-then (Err f) a b c kind h k = then-told a b c (λ x y z p q. left-then f x y z kind p q) h k

@@ -1,3 +1,5 @@
+//! Why a run ends before all is done: each cause, the status that the run then ends with, and the line
+//! that is printed.
 ghost use Rattle.std.specs.Prelude.{◌≡◌, ◌<◌, ◌++◌, IfOk, length};
 ghost use Rattle.run_parts.specs.Refused.{IsOfFields, check_fault, rules_fault};
 ghost use Rattle.edit_report.specs.Reasons.{name_of};
@@ -13,13 +15,13 @@ use record_text::SheetFault;
 use std::alloc::Global;
 use std::marker::Model;
 
-/// What is printed where the words are no command. It takes no memory.
+/// What is printed where the words are no command, without its line feed. It takes no memory.
 pub const USAGE: &[u8] = b"fault: usage";
 
-/// What is printed where memory was refused. It takes none.
+/// What is printed where memory was refused, without its line feed. It takes no memory.
 pub const OUT_OF_MEMORY: &[u8] = b"fault: out of memory";
 
-/// The name of a file or of a field, as the command line gives it.
+/// The name of a file or of a field, as the command line gives it. Contracts see its bytes.
 #[derive(Debug, Drop)]
 pub struct AskedName<'a> {
     text: &'a str,
@@ -34,14 +36,14 @@ impl<'a> Model for AskedName<'a> {
 }
 
 impl<'a> AskedName<'a> {
-    /// The name of this text. No memory.
+    /// The name that this text is. No memory.
     pub fn new(text: &'a str) -> Self
         ensures { result ≡ text.now }
     {
         AskedName { text }
     }
 
-    /// The text. No memory.
+    /// The bytes of the name. No memory.
     pub fn as_bytes(&self) -> &[u8]
         ensures { result.now ≡ self.now }
     {
@@ -94,7 +96,8 @@ pub enum Fault<'a> {
 }
 
 impl<'a> Fault<'a> {
-    /// The refusal for records of these fields that were not read.
+    /// The fault of a run whose record file was not read for `fault`: `Records`, or `OutOfMemory` where
+    /// memory was refused. A field that `fault` tells by its number is one of `fields`.
     pub fn of_records(fields: &[Field], fault: SheetFault) -> Self
         requires { IsOfFields fields.now fault }
         ensures { result ≡ sheet_refusal fields.now fault }
@@ -105,7 +108,8 @@ impl<'a> Fault<'a> {
         }
     }
 
-    /// The refusal for rows of the last period, of these fields, that were not read.
+    /// The fault of a run whose file of the last period was not read for `fault`: `Last`, or `OutOfMemory`
+    /// where memory was refused. A field that `fault` tells by its number is one of `fields`.
     pub fn of_last(fields: &[Field], fault: SheetFault) -> Self
         requires { IsOfFields fields.now fault }
         ensures { result ≡ last_refusal fields.now fault }
@@ -116,7 +120,8 @@ impl<'a> Fault<'a> {
         }
     }
 
-    /// How a run that is refused ends.
+    /// The status with which a run ends that is refused for this fault. The record file and that of the
+    /// last period have the same one.
     pub fn status(&self) -> Status
         ensures { result ≡ fault_status self.now }
     {
@@ -134,7 +139,7 @@ impl<'a> Fault<'a> {
         }
     }
 
-    /// The line that is printed of a run that is refused, without its line feed.
+    /// The line that is printed of a run that is refused for this fault, without its line feed.
     pub fn line(&self, alloc: Global) -> Result<Vec<u8>, OutOfMemory>
         ensures { IfOk result (λ line. line.items ≡ fault_text self.now) }
     {
@@ -158,6 +163,7 @@ impl From<RulesFault> for Fault<'_> {
 
     ghost from_gives = { λ error fault. fault ≡ rules_fault error };
 
+    // The fault of a run whose rules were not read for `error`.
     fn from(error: RulesFault) -> Self {
         match error {
             RulesFault::At { line, kind } => Fault::Rules { line, kind },
@@ -171,6 +177,7 @@ impl From<CheckFault> for Fault<'_> {
 
     ghost from_gives = { λ error fault. fault ≡ check_fault error };
 
+    // The fault of a run whose files the audit of a release did not accept, for `error`.
     fn from(error: CheckFault) -> Self {
         match error {
             CheckFault::Rejected { line, why } => Fault::Rejected { line, why },
@@ -180,7 +187,8 @@ impl From<CheckFault> for Fault<'_> {
 }
 
 impl RecordsFault {
-    // What is wrong with records of these fields that were not read; nothing is said where memory was refused.
+    // What `fault` says of records of these fields that were not read, with a field by its name and not
+    // its number. None where memory was refused, which says nothing of the records.
     fn of(fields: &[Field], fault: SheetFault) -> Option<RecordsFault>
         requires { IsOfFields fields.now fault }
         ensures { result ≡ records_fault_of fields.now fault }
@@ -201,7 +209,8 @@ impl RecordsFault {
         Some(what)
     }
 
-    // The line that is printed of a file without a reading, behind the words that say which file it is.
+    // The line that is printed of a file without a reading, without its line feed. `file` are the words in
+    // front, which say which file it is.
     fn line(&self, alloc: Global, file: &[u8]) -> Result<Vec<u8>, OutOfMemory>
         ensures { IfOk result (λ line. line.items ≡ file.now ++ records_fault_text self.now) }
     {
@@ -209,7 +218,8 @@ impl RecordsFault {
         joined(alloc, file, &text)
     }
 
-    // What is wrong, as it is printed.
+    // What is wrong with the file, as it is printed, such as `kind 14 RowLength row 3`. It is the kind's
+    // number and name, and which field or row, a row counted from 1.
     fn text(&self, alloc: Global) -> Result<Vec<u8>, OutOfMemory>
         ensures { IfOk result (λ text. text.items ≡ records_fault_text self.now) }
     {
@@ -232,7 +242,8 @@ impl RecordsFault {
     }
 }
 
-// The line that is printed of a rule file without a reading.
+// The line that is printed of a rule file without a reading, as `fault: rules line 3 kind 2 Syntax`,
+// without its line feed. `line` is the first faulty one, from 1.
 fn rules_line(alloc: Global, line: u32, kind: RulesKind) -> Result<Vec<u8>, OutOfMemory>
     ensures { IfOk result (λ text. text.items ≡ fault_text (faults.Rules line kind)) }
 {
@@ -240,14 +251,16 @@ fn rules_line(alloc: Global, line: u32, kind: RulesKind) -> Result<Vec<u8>, OutO
     Ok(format!(in alloc; "fault: rules {fault}")?.into_bytes())
 }
 
-// The line that is printed of files that are no valid release.
+// The line that is printed of files that are no valid release, as `fault: proof line 7 Cert`, without its
+// line feed. `line` is that of the proof, 0 for none, and `why` the condition that fails.
 fn rejected_line(alloc: Global, line: u64, why: Why) -> Result<Vec<u8>, OutOfMemory>
     ensures { IfOk result (λ text. text.items ≡ fault_text (faults.Rejected line why)) }
 {
     Ok(format!(in alloc; "fault: proof line {line} {why}")?.into_bytes())
 }
 
-// A copy of the name of the field of this number, from 0.
+// A copy of the name of the field of this number, from 0. `Name::new` takes the bytes, since they are a
+// name's already.
 fn name_of(fields: &[Field], number: u32) -> Name
     requires { number < length fields.now }
     ensures { result ≡ name_of fields.now number }
@@ -258,7 +271,7 @@ fn name_of(fields: &[Field], number: u32) -> Name
     name
 }
 
-// The two texts, one after the other.
+// The bytes of both texts, one after the other.
 fn joined(alloc: Global, first: &[u8], second: &[u8]) -> Result<Vec<u8>, OutOfMemory>
     ensures { IfOk result (λ all. all.items ≡ first.now ++ second.now) }
 {

@@ -1,6 +1,7 @@
-//! What the runs of all commands share: how they end, why they are refused and what is printed of that; files that are
-//! fetched and read, and files that are stored; lines that are printed; the words of a program. A run is over any desk and
-//! any printer: what is seen of them, and what a refused run leaves, is defined in `specs/Run.antt`.
+//! What the runs of all commands share: how they end, why they are refused, and what is printed of that.
+//! Files are fetched and read here, and stored, lines are printed, and the words of a program are had from
+//! the system. A run is over any desk and any printer: what is seen of them, and what a refused run
+//! leaves, is defined in `specs/Run.antt`.
 #![tactic(auto)]
 
 mod fault;

@@ -1,8 +1,16 @@
-//! The files of a run as they are fetched and read.
+//! The files of a run as they are fetched from the desk and read: rules, records, rows of the last
+//! period, or bytes alone. The clauses of each call say what the file holds (`read`), which refusals may
+//! come (`kind`) and what each says of the file (`cause`). They also say what is asked of the desk, which
+//! stores nothing.
+//!
+//! In contracts, `HoldsRules` says that the file of this name reads as the survey, and as no other.
+//! `HoldsRecords` says so of a sheet. `HoldsBytes` says that the file has just these bytes. `asked` says
+//! which calls the desk is asked for, `faults` how its count of faults stands after them, and `unchanged`
+//! that no file is changed.
 ghost use Rattle.std.specs.Prelude.{◌≡◌, ◌≤◌, ◌∷◌, [], ℕ, List, IfErr, IfOk, length};
 ghost use Rattle.std.specs.List.{AllByRecursion};
 ghost use Rattle.edit_desk.specs.Desk.{PutsOnRecord, fetched};
-ghost use Rattle.edit_model.specs.PlainNumbers.{HasPlain};
+ghost use Rattle.edit_model.specs.PlainNumbers.{HasPlainNumbers};
 ghost use Rattle.edit_model.specs.Surveys.{IsWellFormed};
 ghost use Rattle.run_parts.specs.Limits.{most_bytes};
 ghost use Rattle.run_parts.specs.Readings.{HoldsBytes, HoldsRecords, HoldsRules};
@@ -27,7 +35,8 @@ pub const MOST_BYTES: u64 = 67_108_864;
 /// The most bytes of a proof: 512 MiB.
 pub const MOST_PROOF_BYTES: u64 = 536_870_912;
 
-/// The survey that the rule file reads as.
+/// The survey that the rule file of this name reads as. Refused where the file can't be read, is longer
+/// than [`MOST_BYTES`] or is no text of rules, and for want of memory.
 pub fn fetch_survey<'a, D: Desk>(
     alloc: Global,
     name: &'a str,
@@ -48,7 +57,9 @@ pub fn fetch_survey<'a, D: Desk>(
     }
 }
 
-/// The sheet of the survey's records that the record file reads as.
+/// The sheet of the survey's records that the record file of this name reads as. Refused where the file
+/// can't be read, is longer than [`MOST_BYTES`] or holds no records of the survey's fields, and for want
+/// of memory. Numbers of the sheet are as small as numerals of record files spell them (`HasPlainNumbers`).
 pub fn fetch_sheet<'a, D: Desk>(
     alloc: Global,
     name: &'a str,
@@ -57,7 +68,7 @@ pub fn fetch_sheet<'a, D: Desk>(
 ) -> Result<Sheet, Refusal<'a>>
     ensures read { IfOk result (λ sheet. HoldsRecords (D.files desk.old) name.now survey.now.fields sheet) }
     ensures sheet { IfOk result (λ sheet. (bytes : List ℕ) × IsSheet survey.now.fields bytes sheet) }
-    ensures plain { IfOk result (λ sheet. AllByRecursion HasPlain sheet.rows) }
+    ensures plain { IfOk result (λ sheet. AllByRecursion HasPlainNumbers sheet.rows) }
     ensures kind { IfErr result (IsOfRecords name.now) }
     ensures cause { IfErr result (λ fault. RefusesRecords name.now survey.now.fields (D.files desk.old) fault) }
     ensures asked { PutsOnRecord (D.calls desk.old) (D.calls desk.new) (AreCallsOf (fetched name.now ∷ []) result) }
@@ -71,7 +82,9 @@ pub fn fetch_sheet<'a, D: Desk>(
     }
 }
 
-/// The sheet of the survey's records that the file of the last period reads as.
+/// The sheet of the survey's records that the file of the last period reads as, where `survey` is that of
+/// its columns. It is refused as [`fetch_sheet`] is, but that what is wrong with the file is told as a
+/// fault of the last file (`Fault::Last`).
 pub fn fetch_last<'a, D: Desk>(
     alloc: Global,
     name: &'a str,
@@ -80,7 +93,7 @@ pub fn fetch_last<'a, D: Desk>(
 ) -> Result<Sheet, Refusal<'a>>
     ensures read { IfOk result (λ sheet. HoldsRecords (D.files desk.old) name.now survey.now.fields sheet) }
     ensures sheet { IfOk result (λ sheet. (bytes : List ℕ) × IsSheet survey.now.fields bytes sheet) }
-    ensures plain { IfOk result (λ sheet. AllByRecursion HasPlain sheet.rows) }
+    ensures plain { IfOk result (λ sheet. AllByRecursion HasPlainNumbers sheet.rows) }
     ensures kind { IfErr result (IsOfLast name.now) }
     ensures cause { IfErr result (λ fault. RefusesLast name.now survey.now.fields (D.files desk.old) fault) }
     ensures asked { PutsOnRecord (D.calls desk.old) (D.calls desk.new) (AreCallsOf (fetched name.now ∷ []) result) }
@@ -94,7 +107,9 @@ pub fn fetch_last<'a, D: Desk>(
     }
 }
 
-// The sheet of the survey's records that the file of this name reads as, or why its bytes were not read.
+// The sheet of the survey's records that the file of this `name` reads as. The inner `Err` is what is wrong
+// with its bytes, which the caller turns into its own refusal. Refused, as [`fetch_file`] is, where the
+// bytes themselves can't be had.
 fn fetch_records<'a, D: Desk>(
     alloc: Global,
     name: &'a str,
@@ -103,7 +118,7 @@ fn fetch_records<'a, D: Desk>(
 ) -> Result<Result<Sheet, SheetFault>, Refusal<'a>>
     ensures read { IfOk result (λ found. IfOk found (λ sheet. HoldsRecords (D.files desk.old) name.now survey.now.fields sheet)) }
     ensures sheet { IfOk result (λ found. IfOk found (λ sheet. (bytes : List ℕ) × IsSheet survey.now.fields bytes sheet)) }
-    ensures plain { IfOk result (λ found. IfOk found (λ sheet. AllByRecursion HasPlain sheet.rows)) }
+    ensures plain { IfOk result (λ found. IfOk found (λ sheet. AllByRecursion HasPlainNumbers sheet.rows)) }
     ensures fields { IfOk result (λ found. IfErr found (IsOfFields survey.now.fields)) }
     ensures unread { IfOk result (λ found. IfErr found (TellsUnread name.now survey.now.fields (D.files desk.old))) }
     ensures kind { IfErr result (IsOfFetch name.now) }
@@ -116,7 +131,8 @@ fn fetch_records<'a, D: Desk>(
     Ok(read_records(alloc, survey, &bytes))
 }
 
-/// The bytes of a file, within the limit.
+/// The bytes of the file of this `name`. Refused where it can't be read (`Fault::Read`) or has more than
+/// `most` bytes (`Fault::TooLong`), and for want of memory.
 pub fn fetch_file<'a, D: Desk>(
     alloc: Global,
     name: &'a str,
@@ -142,7 +158,8 @@ pub fn fetch_file<'a, D: Desk>(
     }
 }
 
-// The refusals for a file that can't be read, and for one that is too long.
+// Two refusals for a file of this `name`: for one that can't be read, and for one that is too long. They
+// are made before the fetch, so that a failed one is told without memory.
 fn fetch_refusals<'a>(
     alloc: Global,
     name: &'a str,

@@ -1,3 +1,5 @@
+//! Why a run is refused, together with the line that is printed of that: what the parts of a run answer
+//! as their `Err`.
 ghost use Rattle.std.specs.Prelude.{◌≡◌, ◌⊎◌, IfOk};
 ghost use Rattle.run_parts.specs.Faults.{fault_status, fault_text};
 ghost use Rattle.run_parts.specs.declared.fault.Fault.TheVariants as faults;
@@ -8,8 +10,9 @@ use foundation::OutOfMemory;
 use std::alloc::Global;
 use std::marker::Model;
 
-/// A fault that ends a run, with the line that is printed of it. The line is made before the call that may meet
-/// the fault, so that a file that could not be read or written is told without memory.
+/// A fault that ends a run, with the line that is printed of it. The line is made before the call that
+/// may meet the fault. So a file that could not be read or written is told without memory. The refusal
+/// for want of memory alone may have no line of its own: it has a constant one.
 #[derive(Debug, Drop)]
 pub struct Refusal<'a> {
     fault: Fault<'a>,
@@ -30,7 +33,7 @@ impl<'a> Model for Refusal<'a> {
 }
 
 impl<'a> Refusal<'a> {
-    /// The refusal for a fault.
+    /// The refusal for `fault`, with its line. `Err` where memory for the line is refused.
     pub fn new(alloc: Global, fault: Fault<'a>) -> Result<Refusal<'a>, OutOfMemory>
         ensures { IfOk result (λ refusal. refusal ≡ fault.entry) }
     {
@@ -41,7 +44,7 @@ impl<'a> Refusal<'a> {
         })
     }
 
-    /// The refusal for a fault, or for want of memory.
+    /// The refusal for `fault`, or that for want of memory where memory for the fault's line is refused.
     pub fn of(alloc: Global, fault: Fault<'a>) -> Refusal<'a>
         ensures { (result ≡ fault.entry) ⊎ (result ≡ faults.OutOfMemory) }
     {
@@ -61,14 +64,14 @@ impl<'a> Refusal<'a> {
         }
     }
 
-    /// How the run ends. No memory.
+    /// The status with which a run ends that is refused so. No memory.
     pub fn status(&self) -> Status
         ensures { result ≡ fault_status self.now }
     {
         self.fault.status()
     }
 
-    /// What is printed of it. No memory.
+    /// The line that is printed of the refusal, without its line feed. No memory.
     pub fn line(&self) -> &[u8]
         ensures { result.now ≡ fault_text self.now }
     {

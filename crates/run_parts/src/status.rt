@@ -1,9 +1,11 @@
+//! How a run of a program ends, and the number that the process then answers.
 ghost use Rattle.std.specs.Prelude.{◌≡◌};
 
 /// How a run of the program ended.
 #[derive(Clone, Copy, Debug, PartialEq, Eq)]
 pub enum Status {
-    /// Every record was released, or the files are a valid release, or all lines were printed, or a survey was stored.
+    /// Every record was released, or the files are a valid release, or all lines were printed, or a survey
+    /// was stored.
     Done,
     /// Some record is unresolved, and was left out.
     SomeUnresolved,
@@ -30,7 +32,7 @@ pub enum Status {
 impl Status {
     ghost use Rattle.run_parts.specs.StatusNumbers.{status_number};
 
-    /// The number that the process ends with.
+    /// The number that the process ends with, as `Usage` is 2. No status has the number 10.
     pub fn number(self) -> u8
         ensures { result ≡ status_number self }
     {

@@ -1,4 +1,8 @@
-//! What a run prints.
+//! What a run prints at its end: its lines where all was done on the desk, or why it is refused. Each
+//! call answers the status that the run ends with.
+//!
+//! In contracts, `PrintsAll` says that all lines were printed and the run ends so, or that one failed and
+//! it ends with `WriteFault`.
 ghost use Rattle.std.specs.Prelude.{◌≡◌, ◌≢◌, [], ◌∷◌};
 ghost use Rattle.run_parts.specs.PrintedLines.{PrintsLine};
 ghost use Rattle.run_parts.specs.Faults.{fault_text};
@@ -9,7 +13,8 @@ use crate::fault::{OUT_OF_MEMORY, USAGE};
 use crate::status::Status;
 use edit_desk::{PrintFailed, Printer};
 
-/// Ends a run whose words could not be had, with this status: they are no text, or memory was refused.
+/// Ends a run whose words could not be had, with this `status`: `Usage` where they are no text, and else
+/// that for want of memory. It prints the line that belongs to the status.
 pub fn refuse_words<P: Printer>(printer: &mut P, status: Status) -> Status
     ensures status { result ≡ status }
     ensures usage { status ≡ Status.Usage → PrintsLine P.Printer printer (fault_text faults.Usage) }
@@ -21,8 +26,9 @@ pub fn refuse_words<P: Printer>(printer: &mut P, status: Status) -> Status
     }
 }
 
-/// Prints the lines of a run that did all on the desk, in order: where one fails, the run ends as if a file could not be
-/// written, and no later one is tried.
+/// Prints the lines of a run that did all on the desk, in order, and ends it with `status`. They have no
+/// line feeds, which the printer adds. Where one fails, no later one is tried, and the run ends with
+/// `WriteFault`.
 pub fn tell_all<P: Printer>(printer: &mut P, lines: &[Vec<u8>], status: Status) -> Status
     ensures { PrintsAll P.Printer printer (texts_in lines.now) status result }
 {
@@ -35,7 +41,8 @@ pub fn tell_all<P: Printer>(printer: &mut P, lines: &[Vec<u8>], status: Status) 
     status
 }
 
-/// Prints the line of a run that did all on the desk: where it fails, the run ends as if a file could not be written.
+/// Prints the one line of a run that did all on the desk, and ends it with `status`. The printer adds the
+/// line feed. Where the line fails, the run ends with `WriteFault`.
 pub fn tell<P: Printer>(printer: &mut P, line: &[u8], status: Status) -> Status
     ensures { PrintsAll P.Printer printer (line.now ∷ []) status result }
 {
@@ -45,7 +52,8 @@ pub fn tell<P: Printer>(printer: &mut P, line: &[u8], status: Status) -> Status
     }
 }
 
-/// Prints why a run is refused. Where that fails, the run still ends with the refusal's status.
+/// Prints the line that says why a run is refused, to which the printer adds the line feed. A line that
+/// fails changes nothing: the run still ends with `status`.
 pub fn refuse<P: Printer>(printer: &mut P, line: &[u8], status: Status) -> Status
     ensures status { result ≡ status }
     ensures printed { PrintsLine P.Printer printer line.now }

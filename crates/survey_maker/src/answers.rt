@@ -1,4 +1,6 @@
-//! What is given for the numbers of a business.
+//! What is given for the numbers of a business: the right ones, but for a slip in some rows. So the
+//! editor has something to correct. In contracts, `state_after` is the generator's state after so many
+//! draws.
 ghost use Rattle.std.specs.Prelude.{◌≡◌, ◌++◌, OnOk};
 ghost use Rattle.std.specs.Fmt.{decimal};
 ghost use Rattle.survey_maker.specs.Draws.{state_after};
@@ -18,7 +20,8 @@ pub(crate) enum Answer {
 }
 
 impl Answer {
-    // The answer with a slip: it is left out, or else ten times the number and 1 more.
+    // The answer with a slip: it is left out where `is_left_out` says so, and else ten times the number
+    // and 1 more. An answer that has a slip already stays.
     fn slipped(self, is_left_out: bool) -> Answer
         ensures { result ≡ slipped is_left_out self }
     {
@@ -34,7 +37,7 @@ impl Answer {
         }
     }
 
-    /// Appends the text of the answer.
+    /// Appends the text of the answer, which is empty where it is left out.
     pub(crate) fn write(self, text: &mut Vec<u8>) -> Result<(), OutOfMemory>
         ensures { OnOk result (text.new.items ≡ text.old.items ++ answer_text self) }
     {
@@ -46,7 +49,9 @@ impl Answer {
     }
 }
 
-/// Draws what is given in the place of answers that are right: these, or all but one, which has a slip.
+/// Draws what is given in the place of the `right` answers. In about three of four rows it is these, and
+/// in the others all but one of them, which has a slip. The first draw tells whether there is a slip,
+/// and two more tell at which answer and which one.
 pub(crate) fn draw_answers(right: [Answer; 12], generator: &mut Generator) -> [Answer; 12]
     ensures answers { result ≡ answers_from right generator.old }
     ensures state { generator.new ≡ state_after (draws_from generator.old) generator.old }

@@ -1,4 +1,5 @@
-//! A business, as it is drawn.
+//! A business, as it is drawn: its numbers and codes meet all rules of the survey, until an answer has a
+//! slip. In contracts, `state_after` is the generator's state after so many draws.
 ghost use Rattle.std.specs.Prelude.{◌≡◌, ◌&&◌, if◌then◌else◌, map};
 ghost use Rattle.survey_maker.specs.Kinds.{may_be_sole};
 ghost use Rattle.survey_maker.specs.Draws.{state_after};
@@ -11,7 +12,7 @@ use crate::generator::Generator;
 use crate::kinds::{Activity, Form, Region};
 use crate::size::Size;
 
-/// The numbers and codes of a business.
+/// The numbers and codes of a business, in the order of the survey's fields.
 #[derive(Drop)]
 pub(crate) struct Business {
     turnover: u32,
@@ -33,7 +34,8 @@ pub(crate) struct Business {
 }
 
 impl Business {
-    /// Draws a business, by 11 draws.
+    /// Draws a business, by 11 draws. It meets all rules of the survey: its sums are made of the drawn
+    /// parts, and its other numbers and codes stay within the bounds.
     pub(crate) fn draw(generator: &mut Generator) -> Business
         ensures drawn { result ≡ business_at generator.old }
         ensures state { generator.new ≡ state_after 11 generator.old }
@@ -72,7 +74,7 @@ impl Business {
         }
     }
 
-    /// The numbers as answers, in the order of the fields.
+    /// The numbers as right answers, in the order of the fields.
     pub(crate) fn answers(&self) -> [Answer; 12]
         ensures { result ≡ map Right (numbers_in self.now) }
     {
@@ -92,7 +94,7 @@ impl Business {
         ]
     }
 
-    /// The codes, in the order of the fields.
+    /// The texts of the codes, in the order of the fields.
     pub(crate) fn codes(&self) -> [&'static [u8]; 4]
         ensures { map (λ code. code.now) result ≡ codes_in self.now }
     {
@@ -105,7 +107,8 @@ impl Business {
     }
 }
 
-// The form of a business of this size, which is one person's if it may be.
+// The form of a business of this size: one person's where `is_sole` says so and the size allows it, and
+// else a company.
 fn form_of(size: Size, is_sole: bool) -> Form
     ensures { result ≡ (if is_sole && may_be_sole size then Sole else Company) }
 {

@@ -1,11 +1,12 @@
-//! A linear congruential generator.
+//! A linear congruential generator: from one number to start from come the same draws at each run and on
+//! each machine.
 ghost use Rattle.std.specs.Prelude.{◌≡◌, ◌<◌};
 ghost use Rattle.survey_maker.specs.Draws.{drawn, next_state};
 
 use std::marker::Model;
 
-/// What the state is multiplied by at each draw, and what is then added, for 64 bits (Knuth, The Art of Computer Programming,
-/// volume 2, on linear congruential sequences).
+/// What the state is multiplied by at each draw, and what is then added, for 64 bits. They are from
+/// Knuth, The Art of Computer Programming, volume 2, on linear congruential sequences.
 const MULTIPLIER: u64 = 6_364_136_223_846_793_005;
 
 const INCREMENT: u64 = 1_442_695_040_888_963_407;
@@ -34,7 +35,8 @@ impl Generator {
         }
     }
 
-    /// Draws a number below the bound.
+    /// Draws a number below the bound. It comes from the upper 31 bits of the state, since the lower ones
+    /// of such a generator repeat soon.
     #[tactic(auto, unfolding(crate::specs::Draws::drawn, crate::specs::Draws::next_state))]
     pub(crate) fn draw(&mut self, bound: u32) -> u32
         requires { 0 < bound }

@@ -1,4 +1,4 @@
-//! Of what kind a business is: the codes of three fields.
+//! Of what kind a business is: the codes of three of its four categorical fields. The fourth is its size.
 ghost use Rattle.std.specs.Prelude.{◌≡◌, ◌<◌, slice_index_or};
 ghost use Rattle.survey_maker.specs.Kinds.{activities, activity_text, form_text, region_text, regions};
 ghost use Rattle.survey_maker.specs.declared.kinds.Activity.TheVariants.{Service};
@@ -14,7 +14,7 @@ pub(crate) enum Activity {
 }
 
 impl Activity {
-    /// The activity of this number, from 0.
+    /// The activity of this number, from 0, in the order of the field's codes.
     pub(crate) fn numbered(number: u32) -> Activity
         requires { number < 4 }
         ensures { result ≡ slice_index_or activities number Service }
@@ -27,7 +27,7 @@ impl Activity {
         }
     }
 
-    /// Its code.
+    /// The activity's code, as it stands in files.
     pub(crate) fn text(self) -> &'static [u8]
         ensures { result.now ≡ activity_text self }
     {
@@ -50,7 +50,7 @@ pub(crate) enum Region {
 }
 
 impl Region {
-    /// The region of this number, from 0.
+    /// The region of this number, from 0, in the order of the field's codes.
     pub(crate) fn numbered(number: u32) -> Region
         requires { number < 4 }
         ensures { result ≡ slice_index_or regions number West }
@@ -63,7 +63,7 @@ impl Region {
         }
     }
 
-    /// Its code.
+    /// The region's code, as it stands in files.
     pub(crate) fn text(self) -> &'static [u8]
         ensures { result.now ≡ region_text self }
     {
@@ -85,7 +85,7 @@ pub(crate) enum Form {
 }
 
 impl Form {
-    /// Its code.
+    /// The form's code, as it stands in files.
     pub(crate) fn text(self) -> &'static [u8]
         ensures { result.now ≡ form_text self }
     {

@@ -1,4 +1,4 @@
-//! The line of a row.
+//! The line of a row in the record file: a business as it is drawn, with its answers.
 ghost use Rattle.std.specs.Prelude.{◌≡◌, ◌++◌, OnOk, codes, map};
 ghost use Rattle.std.specs.List.{flat_map};
 ghost use Rattle.survey_maker.specs.RecordFiles.{after_row, answers_text, row_line};
@@ -8,7 +8,8 @@ use crate::business::Business;
 use crate::generator::Generator;
 use foundation::OutOfMemory;
 
-/// Draws a row and appends its line, which begins with the number.
+/// Draws a business, and what is answered for it, and appends its line, which begins with `number`, the
+/// row's own. The generator is left behind these draws.
 pub(crate) fn write_row(
     text: &mut Vec<u8>,
     number: u32,
@@ -26,7 +27,7 @@ pub(crate) fn write_row(
     Ok(())
 }
 
-// Appends answers, each behind a comma.
+// Appends answers, each behind a comma. Where one is left out, nothing stands behind its comma.
 fn write_answers(text: &mut Vec<u8>, answers: &[Answer]) -> Result<(), OutOfMemory>
     ensures { OnOk result (text.new.items ≡ text.old.items ++ answers_text answers.now) }
 {

@@ -1,4 +1,4 @@
-//! The rule file.
+//! The rule file of the survey that is made. It is the same for all record files.
 ghost use Rattle.std.specs.Prelude.{◌≡◌, IfOk};
 ghost use Rattle.edit_language.specs.Printing.{printed};
 ghost use Rattle.survey_maker.specs.SurveyMade.{survey_made};

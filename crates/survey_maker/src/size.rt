@@ -1,4 +1,4 @@
-//! Size classes of businesses, by their staff.
+//! Size classes of businesses, by their staff: how many people a business of a class has.
 ghost use Rattle.std.specs.Prelude.{◌≡◌, ◌+◌, ◌<◌, ◌≤◌, slice_index_or};
 ghost use Rattle.survey_maker.specs.Kinds.{least_staff, may_be_sole, size_text, sizes, staff_numbers};
 ghost use Rattle.survey_maker.specs.declared.size.Size.TheVariants.{Large};
@@ -13,7 +13,7 @@ pub(crate) enum Size {
 }
 
 impl Size {
-    /// The size class of this number, from 0.
+    /// The size class of this number, from 0, in the order of the field's codes.
     pub(crate) fn numbered(number: u32) -> Size
         requires { number < 4 }
         ensures { result ≡ slice_index_or sizes number Large }
@@ -39,7 +39,8 @@ impl Size {
         }
     }
 
-    /// How many numbers of staff the class has.
+    /// How many numbers of staff the class has, from its least one on. That of the last class, which has
+    /// no end, is the maker's choice.
     pub(crate) fn staff_numbers(self) -> u32
         ensures number { result ≡ staff_numbers self }
         ensures some { 0 < result }

@@ -1,13 +1,13 @@
-//! What is made from some numbers to start from. The rows were computed by a program in another language, from what is drawn and
-//! what follows from that.
+//! What is made from some numbers to start from. The rows were computed by a program in another
+//! language, from what is drawn and what follows from that.
 use crate::{records_text, rules_text};
 use edit_language::{print_rules, read_rules};
 use std::alloc::Global;
 use std::process::Abort;
 use std::test::Fail;
 
-/// Numbers to start from, how many rows are made, and the file. The third row from 6 has a number left out, and the fifth from
-/// 4294967295 one that is ten times itself and 1 more.
+/// Numbers to start from, how many rows are made, and the file. The third row from 6 has a number left
+/// out, and the fifth from 4294967295 one that is ten times itself and 1 more.
 const FILES: &[(u32, u32, &[u8])] = &[
     (
         0,
@@ -46,7 +46,7 @@ const FILES: &[(u32, u32, &[u8])] = &[
     ),
 ];
 
-/// Makes each of these files, and compares it.
+/// Makes each of these record files, and compares it with the table's.
 fn tell_files(rt: &impl Abort, alloc: Global, cases: &[(u32, u32, &[u8])]) -> Result<(), Fail> {
     for (start, rows, file) in cases {
         let text = records_text(alloc, *start, *rows)?;
@@ -55,6 +55,7 @@ fn tell_files(rt: &impl Abort, alloc: Global, cases: &[(u32, u32, &[u8])]) -> Re
     Ok(())
 }
 
+// Record files from four numbers to start from, compared byte for byte.
 #[test]
 fn rows_follow_from_the_number_to_start_from(rt: HostRuntime) -> Result<(), Fail> {
     tell_files(&rt, rt.alloc(), FILES)
@@ -109,6 +110,7 @@ if Size in {large} then Form not in {sole}
 if Invest > 1000000 then Size not in {micro}
 ";
 
+// The rules as one would write them, read and printed, are the rule file that is made.
 #[test]
 fn the_rule_file_is_the_survey_as_it_is_printed(rt: HostRuntime) -> Result<(), Fail> {
     let survey = read_rules(rt.alloc(), SURVEY)?;

@@ -14,8 +14,8 @@ abbrev pub TellLinked : SurveyParts → EditsParts → List Value → ℕ → Ty
 TellLinked survey edits row fixed = (p : Point) → Meets (case_of survey edits row) p ↔ IsLinkedCorrection survey row fixed p
 
 -- the edits tell the corrections that leave some fields alone
-abbrev pub TellSome : SurveyParts → EditsParts → List Value → Type 0
-TellSome survey edits row = (fixed : ℕ) × TellLinked survey edits row fixed
+abbrev pub TellLinkedCorrections : SurveyParts → EditsParts → List Value → Type 0
+TellLinkedCorrections survey edits row = (fixed : ℕ) × TellLinked survey edits row fixed
 
 -- the search finds this change, within some budget of 64 bits
 abbrev pub IsFound : SurveyParts → EditsParts → List Value → List Bool → ℕ → Cert → Type 0

@@ -5,6 +5,7 @@ use Rattle.edit_model.specs.declared.value.Value.{Value}
 use Rattle.edit_normal.specs.RuleLines.{normal_lines_of}
 use Rattle.record_text.specs.Sheets.{IsSheet}
 use Rattle.record_text.proofs.SheetLaws.{as_many_row_texts_as_rows}
+use Rattle.edit_report.specs.Ends.{IsEnd}
 use Rattle.edit_report.proofs.SheetLaws.{raw-long}
 use Rattle.panel_files.proofs.BothLaws.{both-rows-at, both-rows-length}
 use Rattle.panel_files.specs.LastFields.{last_fields, own_fields}
@@ -17,7 +18,8 @@ use Rattle.panel_release.proofs.release.release_panel.Goals as goal
 
 pub of-requires : goal.of-requires
 of-requires c =
-    let last = subst (λ (p : PanelCase). (bytes : List ℕ) × IsSheet (last_fields p.survey.fields p.set) bytes p.files.last) (sym c.panel.view_is) c.requires.last in
+    let last = subst (λ (p : PanelCase). (bytes : List ℕ) × IsSheet (last_fields p.survey.fields p.set) bytes p.files.last) (sym c.panel.view_is)
+    c.requires.last in
     let key = subst (λ (p : PanelCase). p.files.last_key < length p.files.last.header) (sym c.panel.view_is) c.requires.last_key in
     texts-within _ last.0 _ last.1 c.panel.inside.last_key key
 
@@ -42,6 +44,14 @@ tell-requires-clause-width c =
     ∙ raw-long _ _ _ _ own.1 (omega (arith, c.loop-row_no-test.true, c.loop-row_no.auto.row_no-end, c.len-row_no-end.ensures.row_texts))
     ∙ sym width
 
+pub answer_at-requires-clause-lines : goal.answer_at-requires-clause-lines
+answer_at-requires-clause-lines c =
+    rw c.deref.ensures.value (c.in_ok-lines.ensures.lines ∙ ap (λ (p : PanelCase). normal_lines_of p.survey) c.panel.view_is)
+
+pub tell-requires-clause-end : goal.tell-requires-clause-end
+tell-requires-clause-end c =
+    subst (λ (p : PanelCase). IsEnd p.survey.fields (end_of c.in_ok-answer.answer)) (sym c.panel.view_is) c.in_ok-answer.ensures.end
+
 pub loop-row_no-preserved : goal.loop-row_no-preserved
 loop-row_no-preserved c =
     let panel = c.args.panel.now in
@@ -51,11 +61,15 @@ loop-row_no-preserved c =
     let after = c.tell.new.self in
     let same = as_many_row_texts_as_rows _ c.requires.own.0 _ c.requires.own.1 in
     let many = both-rows-length panel.survey.fields panel.set panel.files same in
-    let below_inside : n < length c.panel.inside.own.now.rows = omega (arith, c.loop-row_no-test.true, c.loop-row_no.auto.row_no-end, c.len-row_no-end.ensures.rows) in
+    let below_inside : n < length c.panel.inside.own.now.rows = omega (
+      arith,
+      c.loop-row_no-test.true,
+      c.loop-row_no.auto.row_no-end,
+      c.len-row_no-end.ensures.rows,
+    ) in
     let below = subst (λ (p : PanelCase). n < length p.files.own.rows) c.panel.view_is below_inside in
-    let row = c.in_ok-row.ensures.row ∙ sym (both-rows-at panel.survey.fields panel.set panel.files same n below) in
-    let asked = subst (λ (p : PanelCase). IsAnswerAmong p.survey p.set c.args.budget c.in_ok-row.row answer) c.panel.view_is c.in_ok-answer.ensures.answer in
-    let is = subst (λ (values : List Value). IsAnswerAmong panel.survey panel.set c.args.budget values answer) row asked in
+    let row = sym (both-rows-at panel.survey.fields panel.set panel.files same n below) in
+    let is = subst (λ (values : List Value). IsAnswerAmong panel.survey panel.set c.args.budget values answer) row c.in_ok-answer.ensures.answer in
     let read = c.raw.ensures ∙ ap (λ (p : PanelCase). get_or p.files.own.row_texts n []) c.panel.view_is in
     let told = subst (λ (p : PanelCase). TellsOne p.survey.fields c.in_ok-layout.layout.columns n c.raw.result.now answer before after) c.panel.view_is
     c.in_ok-tell.ensures.told in

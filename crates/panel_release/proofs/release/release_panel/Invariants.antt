@@ -3,6 +3,3 @@ use Rattle.panel_release.proofs.release.release_panel.Given as goal
 
 abbrev pub invariant-loop-row_no : goal.invariant-loop-row_no
 invariant-loop-row_no l = TellsTo l.panel l.budget l.row_no l.told
-
-abbrev pub ghosts-answer_for : goal.ghosts-answer_for
-ghosts-answer_for a = record { name = a.blank.name; parts = a.blank.parts }

@@ -13,7 +13,8 @@ tests_of-requires-clause-sets c =
 pub tests_of-requires-clause-wholes : goal.tests_of-requires-clause-wholes
 tests_of-requires-clause-wholes c =
     let line = c.args.line.now in
-    ap length (c.deref.ensures.value ∙ c.in_ok-wholes.ensures) ∙ ap (λ (shape : List Domain). length (whole_sets shape)) c.shape.ensures ∙ length-wholes 0 line.shape
+    ap length (c.deref.ensures.value ∙ c.in_ok-wholes.ensures) ∙ ap (λ (shape : List Domain). length (whole_sets shape)) c.shape.ensures
+    ∙ length-wholes 0 line.shape
     ∙ sym (ap length (same_codes c.codes.result.now c.args.survey.now.fields line.shape c.codes.ensures c.requires))
 
 pub returns : goal.returns
