@@ -16,7 +16,8 @@ use Rattle.run_parts.specs.declared.status.Status.TheVariants as status
 use Rattle.run_parts.proofs.HeldLaws.{not_longer, weaker}
 use Rattle.run_parts.proofs.InputLaws.{IsBeside, read-beside, read-not-due}
 use Rattle.page_command.specs.PageFaults.{IsFileDue, IsPageDue, IsReasonsDue, IsReleasedDue, IsUnfit, RefusesPage}
-use Rattle.page_command.specs.PageSources.{HasItsRows, HoldsReasons, HoldsSources, PageSources}
+use Rattle.release_figures.specs.Releases.{ReleaseParts}
+use Rattle.page_command.specs.PageSources.{HasItsRows, HoldsReasons, HoldsSources}
 use Rattle.page_command.specs.declared.page_fault.PageFault.{PageFault}
 use Rattle.page_command.specs.declared.page_fault.PageFault.TheVariants.{Reasons as ReasonsFile, Released, Rows}
 use Rattle.page_command.specs.declared.refusal.PageRefusal.{PageRefusal}
@@ -138,7 +139,7 @@ module _ (asked : PageAsked) (files : Files) where
 
   -- ---- files that were read
 
-  module _ (sources : PageSources) (held : HoldsSources (Some files) asked sources) where
+  module _ (sources : ReleaseParts) (held : HoldsSources (Some files) asked sources) where
     -- but for the number of rows, nothing is due of them
     rows_due : (other : Status) → IsPageDue asked files other → (other ≡ status.Rejected) × ¬ HasItsRows sources
     rows_due other (inl due) =
@@ -217,7 +218,7 @@ module _ (asked : PageAsked) (files : Files) where
       inr (inr (inr (inl (survey, hr, (records, hs, (released, hd, subst (λ (n : List ℕ). IsLonger files n most_bytes) same long))))))
 
   -- files that were read and fit are refused for no other
-  pub fit_beside : (sources : PageSources) → HoldsSources (Some files) asked sources → HasItsRows sources → (r : PageRefusal)
+  pub fit_beside : (sources : ReleaseParts) → HoldsSources (Some files) asked sources → HasItsRows sources → (r : PageRefusal)
       → Refuses asked (Some files) r → SaysNothing r
   fit_beside sources held fits (Unfit what) why = (rows_due sources held status.Rejected (unfit_due what why)).1 fits
   fit_beside sources held fits (Shared (fault.Read name)) why = tt

@@ -1,5 +1,5 @@
 -- Refusals of the parts of the command: their kinds, their causes, and the calls up to them.
-use Rattle.std.proofs.Common.{◌≡◌, ◌∙◌, ℕ, List, [], ◌∷◌, ◌++◌, Option, ap, length, inl, inr}
+use Rattle.std.proofs.Common.{◌≡◌, ◌∙◌, ℕ, List, [], ◌∷◌, ◌++◌, Option, ap, length, inl, inr, take}
 use Rattle.edit_desk.specs.Desk.{Asked, Files, PutsOnRecord, fetched, stored}
 use Rattle.edit_model.specs.Parts.{SurveyParts}
 use Rattle.record_text.specs.Sheets.{SheetParts}
@@ -12,7 +12,8 @@ use Rattle.run_parts.specs.declared.fault.Fault.TheVariants as fault
 use Rattle.run_parts.proofs.CallLaws.{all-calls, behind-calls, less-calls, of-fetch, of-input}
 use Rattle.page_command.specs.PageFaults.{RefusesPage}
 use Rattle.page_command.specs.PageRun.{page_calls}
-use Rattle.page_command.specs.PageSources.{HoldsReasons, HoldsSources, PageSources}
+use Rattle.release_figures.specs.Releases.{ReleaseParts}
+use Rattle.page_command.specs.PageSources.{HoldsSources}
 use Rattle.page_command.specs.declared.page_fault.PageFault.{PageFault}
 use Rattle.page_command.specs.declared.page_fault.PageFault.TheVariants.{Reasons as ReasonsFile, Released, Rows}
 use Rattle.page_command.specs.declared.refusal.PageRefusal.{PageRefusal}
@@ -31,7 +32,7 @@ of-file name files Says (Shared fault.OutOfMemory) why = tt
 of-file name files Says (Shared f) why = absurd why.0
 of-file name files Says (Unfit what) why = tt
 
-pub of-rows : (sources : PageSources) (r : PageRefusal) → RefusesRows sources r → IsOfRead r
+pub of-rows : (sources : ReleaseParts) (r : PageRefusal) → RefusesRows sources r → IsOfRead r
 of-rows sources (Shared f) why = rw why tt
 of-rows sources (Unfit what) why = tt
 
@@ -90,8 +91,8 @@ module _ (asked : PageAsked) (a b c : Option (List Asked)) where
   reasons-calls files survey rows (Unfit what) why p q = absurd why.claim
 
 -- and of rows that do not fit
-pub rows-calls : (asked : PageAsked) (a b : Option (List Asked)) (sources : PageSources) (r : PageRefusal) → RefusesRows sources r
-    → PutsOnRecord a b (λ calls. calls ≡ (input_of asked ++ released_of asked) ++ reasons_of asked) → PutsOnRecord a b (AreCallsBefore asked r)
+pub rows-calls : (asked : PageAsked) (a b : Option (List Asked)) (sources : ReleaseParts) (r : PageRefusal) → RefusesRows sources r
+    → PutsOnRecord a b (λ calls. calls ≡ take 4 (page_calls asked)) → PutsOnRecord a b (AreCallsBefore asked r)
 rows-calls asked a b sources (Shared f) memory p =
     less-calls a b (AreCallsTo (page_calls asked) f) (λ x e. rw memory (4, e)) p
 rows-calls asked a b sources (Unfit (Rows given kept)) why p = p
@@ -104,21 +105,9 @@ pub reasons-faults : (r : PageRefusal) (a b c d : ℕ) → b ≡ a → c ≡ b �
 reasons-faults r a b c d p q s = s ∙ ap (faults_past r) (q ∙ p)
 
 -- rows that do not fit are no fault of the desk
-pub rows-faults : (sources : PageSources) (r : PageRefusal) (a b c d : ℕ) → RefusesRows sources r → b ≡ a → c ≡ b → d ≡ c
-    → d ≡ faults_past r a
-rows-faults sources (Shared f) a b c d memory p q s = rw memory (s ∙ q ∙ p)
-rows-faults sources (Unfit what) a b c d why p q s = s ∙ q ∙ p
-
--- ---- what was read
-
--- what was fetched and read is there, where no fetch changes the files
-pub all-held : (asked : PageAsked) (files second third : Option Files) (sources : PageSources) (rows : ℕ) → second ≡ files → third ≡ second
-    → rows ≡ length sources.records.rows → HoldsRules files asked.rules sources.survey
-    → HoldsRecords files asked.records sources.survey.fields sources.records
-    → HoldsRecords second asked.released sources.survey.fields sources.released
-    → HoldsReasons third asked.reasons sources.survey.fields rows sources.reasons → HoldsSources files asked sources
-all-held asked files second third sources rows p q many rules records released reasons =
-    record { rules = rules; records = records; released = rw p at released; reasons = rw (q, p, many) at reasons }
+pub rows-faults : (sources : ReleaseParts) (r : PageRefusal) (a b : ℕ) → RefusesRows sources r → b ≡ a → b ≡ faults_past r a
+rows-faults sources (Shared f) a b memory same = rw memory same
+rows-faults sources (Unfit what) a b why same = same
 
 -- ---- causes
 
@@ -152,7 +141,7 @@ module _ (asked : PageAsked) (files : Option Files) where
       reasons-cause (Unfit what) why = absurd why.claim
 
   -- and where rows do not fit
-  pub rows-cause : (sources : PageSources) → HoldsSources files asked sources → (r : PageRefusal) → RefusesRows sources r → Refuses asked files r
+  pub rows-cause : (sources : ReleaseParts) → HoldsSources files asked sources → (r : PageRefusal) → RefusesRows sources r → Refuses asked files r
   rows-cause sources held (Shared f) memory = rw memory tt
   rows-cause sources held (Unfit (Rows given kept)) (is, same, differ) = (sources, held, is, same, differ)
   rows-cause sources held (Unfit what) why = absurd why

@@ -14,7 +14,8 @@ use Rattle.run_parts.proofs.FaultlessLaws.{memory-left}
 use Rattle.run_parts.proofs.ToldLaws.{each-told, same-told, where-told}
 use Rattle.page_command.specs.PageFaults.{IsPageDue}
 use Rattle.page_command.specs.PageRun.{IsPageComplete, IsPageMade, IsPageStopped, page_command, page_line}
-use Rattle.page_command.specs.PageSources.{HasItsRows, HoldsSources, PageSources}
+use Rattle.release_figures.specs.Releases.{ReleaseParts}
+use Rattle.page_command.specs.PageSources.{HasItsRows, HoldsSources}
 use Rattle.page_command.specs.declared.page_run.PageFile.{PageFile}
 use Rattle.page_command.specs.declared.refusal.PageRefusal.{PageRefusal}
 use Rattle.page_command.specs.declared.refusal.PageRefusal.TheVariants.{Shared, Unfit}
@@ -23,10 +24,10 @@ use Rattle.page_command.proofs.DueLaws.{SaysNothing, fit_beside, fit_due}
 
 -- ---- what is made
 
-module _ (asked : PageAsked) (files : Option Files) (sources : PageSources) (held : HoldsSources files asked sources) (fits : HasItsRows sources) where
+module _ (asked : PageAsked) (files : Option Files) (sources : ReleaseParts) (held : HoldsSources files asked sources) (fits : HasItsRows sources) where
   -- where the four files were read and fit, and the page and its line were made, this is to be made
   pub page_made : (file : PageFile) → IsWellFormed sources.survey
-      → IsReleasePage sources.survey sources.records sources.released sources.reasons file.page.items → file.line.items ≡ page_line sources
+      → IsReleasePage sources file.page.items → file.line.items ≡ page_line sources
       → IfSome files (λ o. IsPageMade asked o (made_by asked file))
   page_made file formed tells line =
       each-told files

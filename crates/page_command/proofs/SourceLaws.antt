@@ -8,10 +8,11 @@ use Rattle.reason_lines.specs.declared.reading.Reasons.{Reasons}
 use Rattle.command_words.specs.Asked.{PageAsked}
 use Rattle.run_parts.specs.Readings.{HoldsRecords, HoldsRules, HoldsText, WithSheet}
 use Rattle.run_parts.proofs.HeldLaws.{one_sheet, one_survey}
-use Rattle.page_command.specs.PageSources.{HoldsReasons, HoldsSources, PageSources, WithReleased}
+use Rattle.release_figures.specs.Releases.{ReleaseParts}
+use Rattle.page_command.specs.PageSources.{HoldsReasons, HoldsSources, WithReleased}
 
 -- what was read, in one
-abbrev pub sources_of : SurveyParts → SheetParts → SheetParts → Reasons → PageSources
+abbrev pub sources_of : SurveyParts → SheetParts → SheetParts → Reasons → ReleaseParts
 sources_of survey records released reasons = record { survey = survey; records = records; released = released; reasons = reasons }
 
 -- a claim on a file, and another, are claims on the same bytes
@@ -48,7 +49,7 @@ module _ (asked : PageAsked) (files : Files) where
         subst (P survey records) (one_sheet files asked.released survey.fields other released ho hd) p
 
   -- what was read of all four files is some reading of the first three
-  pub some_released : (sources : PageSources) → HoldsSources (Some files) asked sources → (P : SurveyParts → SheetParts → SheetParts → Type 0)
+  pub some_released : (sources : ReleaseParts) → HoldsSources (Some files) asked sources → (P : SurveyParts → SheetParts → SheetParts → Type 0)
       → P sources.survey sources.records sources.released → WithReleased (Some files) asked P
   some_released sources held P p =
       (sources.survey, held.rules, (sources.records, held.records, (sources.released, held.released, p)))

@@ -16,7 +16,8 @@ use Rattle.run_parts.specs.declared.fault.Fault.{Fault}
 use Rattle.run_parts.specs.declared.fault.Fault.TheVariants as fault
 use Rattle.run_parts.specs.declared.status.Status.{Status}
 use Rattle.run_parts.specs.declared.status.Status.TheVariants as status
-use Rattle.page_command.specs.PageSources.{HasItsRows, HoldsSources, PageSources, WithReleased, kept_count}
+use Rattle.release_figures.specs.Releases.{ReleaseParts}
+use Rattle.page_command.specs.PageSources.{HasItsRows, HoldsSources, WithReleased, kept_count}
 use Rattle.page_command.specs.declared.page_fault.PageFault.{PageFault}
 use Rattle.page_command.specs.declared.page_fault.PageFault.TheVariants.{Reasons as ReasonsFile, Released, Rows}
 
@@ -48,7 +49,7 @@ IsUnfit asked files (Released what) = WithSheet files asked.rules asked.records
     (λ survey records. HoldsText files asked.released (AreNoRecords survey.fields what))
 IsUnfit asked files (ReasonsFile what) = WithReleased files asked
     (λ survey records released. HoldsText files asked.reasons (AreNoReasons survey.fields (length records.rows) what))
-IsUnfit asked files (Rows given kept) = (sources : PageSources) × HoldsSources files asked sources
+IsUnfit asked files (Rows given kept) = (sources : ReleaseParts) × HoldsSources files asked sources
     × (given ≡ length sources.released.rows) × (kept ≡ kept_count sources) × (given ≢ kept)
 
 -- the file of this name is fetched where these are: it is the rules or the records; or the released file, and the records were read; or
@@ -86,7 +87,7 @@ IsReasonsDue asked files answer = WithReleased (Some files) asked (λ survey rec
 -- the released file has another number of rows than there are records that the reasons do not leave out
 abbrev pub IsRowsDue : PageAsked → Files → Status → Type 0
 IsRowsDue asked files answer =
-    (answer ≡ status.Rejected) × (sources : PageSources) × HoldsSources (Some files) asked sources × ¬ HasItsRows sources
+    (answer ≡ status.Rejected) × (sources : ReleaseParts) × HoldsSources (Some files) asked sources × ¬ HasItsRows sources
 
 -- the four files are to be refused with this status
 abbrev pub IsPageDue : PageAsked → Files → Status → Type 0

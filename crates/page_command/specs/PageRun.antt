@@ -13,7 +13,8 @@ use Rattle.run_parts.specs.Run.{IsFaultless, IsLinePrinted, Run}
 use Rattle.run_parts.specs.declared.status.Status.{Status}
 use Rattle.run_parts.specs.declared.status.Status.TheVariants as status
 use Rattle.page_command.specs.PageFaults.{IsUnfit, RefusesPage, calls_to, page_fault_text}
-use Rattle.page_command.specs.PageSources.{HasItsRows, HoldsSources, PageSources}
+use Rattle.release_figures.specs.Releases.{ReleaseParts}
+use Rattle.page_command.specs.PageSources.{HasItsRows, HoldsSources}
 use Rattle.page_command.specs.declared.page_fault.PageFault.{PageFault}
 
 -- all calls of the command, in order
@@ -28,26 +29,26 @@ counts_text records clean changed left_out =
     ++ (codes " changed " ++ (decimal changed ++ (codes " left out " ++ decimal left_out))))))
 
 -- the line of what was read: a record is clean that the reasons neither change nor leave out
-abbrev pub page_line : PageSources → List ℕ
+abbrev pub page_line : ReleaseParts → List ℕ
 page_line sources =
     counts_text (length sources.records.rows)
     (clean_count (length sources.records.rows) sources.reasons.changes sources.reasons.left_out)
     (changed_count (length sources.records.rows) sources.reasons.changes) (length sources.reasons.left_out)
 
 -- this is made of what was read and of a page about it: the page is stored, and the line that counts the records is printed
-abbrev pub made_of : PageAsked → PageSources → List ℕ → Made
+abbrev pub made_of : PageAsked → ReleaseParts → List ℕ → Made
 made_of asked sources page =
     record { status = status.Done; files = (asked.page, page) ∷ []; lines = page_line sources ∷ [] }
 
 -- this is to be made of the files that the desk held: the four were read, with a well-formed survey, the released file has its rows,
 -- and the page tells of them
 pub record IsPageMade (asked : PageAsked) (files : Files) (made : Made) : Type 0 where
-  pub sources : PageSources
+  pub sources : ReleaseParts
   pub held : HoldsSources (Some files) asked sources
   pub formed : IsWellFormed sources.survey
   pub rows : HasItsRows sources
   pub page : List ℕ
-  pub tells : IsReleasePage sources.survey sources.records sources.released sources.reasons page
+  pub tells : IsReleasePage sources page
   pub is : made ≡ made_of asked sources page
 
 -- the command, with the faults that it shares with others
@@ -81,7 +82,7 @@ IsPageStopped asked answer run = IsStopped (page_command asked) answer run ⊎ I
 -- where the four files that the desk held have readings, the released file has its rows, and no fault is met, the page is stored, but
 -- for want of memory
 abbrev pub IsPageComplete : PageAsked → Status → Run → Type 0
-IsPageComplete asked answer run = IfSome run.before.files (λ files. (sources : PageSources)
+IsPageComplete asked answer run = IfSome run.before.files (λ files. (sources : ReleaseParts)
     → HoldsSources (Some files) asked sources → HasItsRows sources → IsFaultless run
     → (answer ≡ status.Done) ⊎ (answer ≡ status.OutOfMemory))
 

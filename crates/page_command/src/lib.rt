@@ -1,5 +1,6 @@
-//! The command `page`, over any desk and any printer: a web page about an edit is made of its rules, its records, what was released of
-//! them, and the reasons for that. Begin with [`page_main`] and `specs/PageRun.antt`.
+//! The command `page`, over any desk and any printer: it makes a web page about an edit. The page is
+//! made of the rules, the records, what was released of them, and the reasons for that. Begin with
+//! [`page_main`] and `specs/PageRun.antt`.
 #![tactic(auto)]
 
 mod page_fault;

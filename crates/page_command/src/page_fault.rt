@@ -1,4 +1,5 @@
-//! Why the released file or the reasons do not fit the records.
+//! Why the released file or the reasons do not fit the records, each fault with the line that is printed
+//! of it. The line is made with the fault, so that it is told without memory.
 ghost use Rattle.std.specs.Prelude.{◌≡◌, IfOk};
 ghost use Rattle.page_command.specs.PageFaults.{page_fault_text};
 ghost use Rattle.page_command.specs.declared.page_fault.PageFault.TheVariants as faults;
@@ -43,7 +44,8 @@ impl Model for ToldFault {
 }
 
 impl ToldFault {
-    /// The fault of a released file without a reading.
+    /// The fault of a released file without a reading. Its line is that of a faulty record file, with
+    /// `released` for `records`.
     pub(crate) fn of_released(alloc: Global, fault: RecordsFault) -> Result<ToldFault, OutOfMemory>
         ensures { IfOk result (λ told. told ≡ faults.Released fault) }
     {
@@ -71,7 +73,7 @@ impl ToldFault {
         })
     }
 
-    /// The fault of a released file with other rows than the records that were not left out.
+    /// The fault of a released file of `given` rows, where `kept` records were not left out.
     pub(crate) fn of_rows(
         alloc: Global,
         given: usize,
@@ -86,7 +88,7 @@ impl ToldFault {
         })
     }
 
-    /// What is printed of it. No memory.
+    /// The line that is printed of it, without its line feed. No memory.
     pub(crate) fn line(&self) -> &[u8]
         ensures { result.now ≡ page_fault_text self.now }
     {

@@ -1,25 +1,35 @@
-//! A run of `page`.
-ghost use Rattle.std.specs.Prelude.{◌≡◌, ◌≢◌, IfErr, IfOk, IfSome};
+//! A run of `page`: what is read, made and stored on the desk, and the line that is printed of it. In
+//! contracts, `IsPageRun` says that the page was stored and the line printed. `IsPageStopped` says what
+//! a refused run leaves, and `IsPageComplete` when want of memory alone may refuse it. `IsPageDue` says
+//! with which status the files are to be refused.
+ghost use Rattle.std.specs.Prelude.{◌≡◌, ◌≢◌, IfErr, IfOk, IfSome, OnOk};
 ghost use Rattle.edit_desk.specs.Desk.{PutsOnRecord, Told};
 ghost use Rattle.page_sections.specs.ReleasePages.{IsReleasePage};
+ghost use Rattle.release_figures.specs.Figures.{AreFigures};
+ghost use Rattle.release_figures.specs.Releases.{release_parts};
 ghost use Rattle.run_parts.specs.Readings.{AnswersDue};
 ghost use Rattle.run_parts.specs.Run.{ran};
 ghost use Rattle.page_command.specs.PageFaults.{IsPageDue};
 ghost use Rattle.page_command.specs.PageRun.{IsPageComplete, IsPageRun, IsPageStopped, counts_text, page_line};
-ghost use Rattle.page_command.specs.inner.PageParts.{ArePageCalls, IsOfPage, PageEnds, Refuses, faults_behind, page_end};
+ghost use Rattle.page_command.specs.PageSources.{HasItsRows};
+ghost use Rattle.page_command.specs.inner.PageParts.{ArePageCalls, IsOfPage, PageEnds, Refuses, RefusesRows};
+ghost use Rattle.page_command.specs.inner.PageParts.{faults_behind, page_end};
 
+use crate::page_fault::ToldFault;
 use crate::refusal::PageRefusal;
 use crate::sources::{Sources, fetch_sources};
 use command_words::PageWords;
 use edit_desk::{Desk, Printer};
 use foundation::OutOfMemory;
-use page_counts::record_counts;
+use page_counts::RecordCounts;
 use page_sections::release_page;
+use release_figures::{Release, ReleaseFigures, figures_of};
 use run_parts::{Status, refuse, store_file, tell};
 use std::alloc::Global;
 
-/// Writes the page about the edit that the words name, and prints how many records were clean, changed and left out, or why the run is
-/// refused.
+/// Writes the page about the edit that the words name, and prints how many records were clean, changed
+/// and left out. Where the run is refused, the reason is printed instead. The answer says how the run
+/// ended.
 pub fn run_page<D: Desk, P: Printer>(
     alloc: Global,
     asked: &PageWords,
@@ -38,14 +48,16 @@ pub fn run_page<D: Desk, P: Printer>(
     }
 }
 
-/// A page, and the line that counts its records.
+/// A page, and the line that counts its records, without its line feed.
 #[derive(Drop)]
 struct PageFile {
     page: Vec<u8>,
     line: Vec<u8>,
 }
 
-// Does on the desk all that the command does there, up to the first fault.
+// Does on the desk all that the command does there, up to the first fault. It fetches the four files,
+// makes the page of them, and stores that. Beside the page and the refusals, the contract says which
+// calls the desk was asked (`PutsOnRecord`), and which files it has then (`PageEnds`).
 fn write_page<'a, D: Desk>(
     alloc: Global,
     asked: &PageWords<'a>,
@@ -59,51 +71,72 @@ fn write_page<'a, D: Desk>(
     ensures faults { D.faults desk.new ≡ faults_behind result (D.faults desk.old) }
 {
     let sources = fetch_sources(alloc, asked, desk)?;
-    let Ok(file) = page_file(alloc, &sources) else {
-        return Err(PageRefusal::out_of_memory());
-    };
+    let file = page_file(alloc, &sources)?;
     store_file(alloc, asked.page, &file.page, desk)?;
     Ok(file)
 }
 
-// The page about what was read, and its line.
-fn page_file(alloc: Global, sources: &Sources) -> Result<PageFile, OutOfMemory>
-    ensures page { IfOk result (λ file.
-        IsReleasePage sources.now.survey sources.now.records sources.now.released sources.now.reasons file.page.items) }
+// The page about what was read, and its line. Refused where the released file has not one row for each
+// record that the reasons do not leave out, and for want of memory.
+fn page_file<'a>(alloc: Global, sources: &Sources) -> Result<PageFile, PageRefusal<'a>>
+    ensures rows { OnOk result (HasItsRows sources.now) }
+    ensures refused { IfErr result (RefusesRows sources.now) }
+    ensures page { IfOk result (λ file. IsReleasePage sources.now file.page.items) }
     ensures line { IfOk result (λ file. file.line.items ≡ page_line sources.now) }
 {
-    let page = release_page(
-        alloc,
-        &sources.survey,
-        &sources.records,
-        &sources.released,
-        &sources.reasons,
-    )?;
-    let line = page_line(alloc, sources)?;
+    let release = sources.release();
+    let figures = figures_of(alloc, &release)?;
+    check_rows(alloc, &release, &figures)?;
+    let page = release_page(alloc, &release, &figures)?;
+    let line = page_line(alloc, &release, &figures)?;
     Ok(PageFile { page, line })
 }
 
-// The line that counts the records.
-fn page_line(alloc: Global, sources: &Sources) -> Result<Vec<u8>, OutOfMemory>
-    ensures { IfOk result (λ line. line.items ≡ page_line sources.now) }
+// Sees that the released file has as many rows as there are records that the reasons do not leave out.
+// Otherwise the refusal tells both numbers.
+fn check_rows<'a>(
+    alloc: Global,
+    release: &Release,
+    figures: &ReleaseFigures,
+) -> Result<(), PageRefusal<'a>>
+    requires { AreFigures (release_parts release.now) figures.now }
+    ensures rows { OnOk result (HasItsRows (release_parts release.now)) }
+    ensures refused { IfErr result (RefusesRows (release_parts release.now)) }
 {
-    let records = sources.records.len();
-    let changes = sources.reasons.changes.as_slice();
-    let left_out = sources.reasons.left_out.as_slice();
-    let counts = record_counts(alloc, records, changes, left_out)?;
-    counts_line(alloc, records, counts.clean, counts.changed, left_out.len())
+    let given = release.released.len() as usize;
+    let kept = figures.released.len();
+    if given == kept {
+        return Ok(());
+    }
+    let told = ToldFault::of_rows(alloc, given, kept)?;
+    Err(PageRefusal::Unfit(told))
 }
 
-// The line of so many records, of which so many were clean, so many changed, and so many left out.
+// The line that counts the records of the release, without its line feed.
+fn page_line(
+    alloc: Global,
+    release: &Release,
+    figures: &ReleaseFigures,
+) -> Result<Vec<u8>, OutOfMemory>
+    requires { AreFigures (release_parts release.now) figures.now }
+    ensures { IfOk result (λ line. line.items ≡ page_line (release_parts release.now)) }
+{
+    let left_out = release.reasons.left_out.len();
+    counts_line(alloc, release.records.len(), &figures.records, left_out)
+}
+
+// The line that counts `records` records, of which `left_out` were left out, without its line feed, such
+// as `page records 9 clean 5 changed 3 left out 1`.
 fn counts_line(
     alloc: Global,
     records: u32,
-    clean: usize,
-    changed: usize,
+    counts: &RecordCounts,
     left_out: usize,
 ) -> Result<Vec<u8>, OutOfMemory>
-    ensures { IfOk result (λ line. line.items ≡ counts_text records clean changed left_out) }
+    ensures { IfOk result (λ line. line.items ≡ counts_text records counts.now.clean counts.now.changed left_out) }
 {
+    let clean = counts.clean;
+    let changed = counts.changed;
     let line = format!(in alloc;
         "page records {records} clean {clean} changed {changed} left out {left_out}"
     )?;

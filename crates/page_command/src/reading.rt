@@ -1,4 +1,7 @@
-//! The released file and the reasons, as they are fetched and read.
+//! The released file and the reasons, as they are fetched and read. Either is refused where it can't be
+//! read, is too long or has no reading, and for want of memory. In contracts, `RefusesFile` says which
+//! of these holds. `PutsOnRecord` says which calls the desk was asked, and `faults_behind` counts its
+//! faults.
 ghost use Rattle.std.specs.Prelude.{◌≡◌, IfErr, IfOk};
 ghost use Rattle.std.specs.List.Sorted.{IsNonDecreasingBy};
 ghost use Rattle.edit_desk.specs.Desk.{PutsOnRecord};
@@ -6,7 +9,8 @@ ghost use Rattle.reason_lines.specs.declared.entry.Change.{Change as AnyChange};
 ghost use Rattle.run_parts.specs.Readings.{HoldsRecords};
 ghost use Rattle.run_parts.specs.Refused.{IsOfFields};
 ghost use Rattle.page_command.specs.PageSources.{HoldsReasons};
-ghost use Rattle.page_command.specs.inner.PageParts.{AreFileCalls, AreNoReasonLines, AreNoReleased, RefusesFile, TellsReleased, TellsReasons, faults_behind};
+ghost use Rattle.page_command.specs.inner.PageParts.{AreFileCalls, AreNoReasonLines, AreNoReleased, RefusesFile};
+ghost use Rattle.page_command.specs.inner.PageParts.{TellsReleased, TellsReasons, faults_behind};
 
 use crate::page_fault::ToldFault;
 use crate::refusal::PageRefusal;
@@ -17,7 +21,7 @@ use record_text::{Sheet, SheetFault, read_records};
 use run_parts::{Fault, MOST_BYTES, fetch_file};
 use std::alloc::Global;
 
-/// The sheet of the survey's records that the released file reads as.
+/// The sheet of the survey's records that the released file `name` reads as.
 pub(crate) fn fetch_released<'a, D: Desk>(
     alloc: Global,
     name: &'a str,
@@ -37,7 +41,8 @@ pub(crate) fn fetch_released<'a, D: Desk>(
     }
 }
 
-/// The reasons for `rows` records of the survey that the reasons file reads as.
+/// The reasons for `rows` records of the survey that the reasons file `name` reads as. The changes stand
+/// in the order of their records (`rising`).
 pub(crate) fn fetch_reasons<'a, D: Desk>(
     alloc: Global,
     name: &'a str,
@@ -59,7 +64,8 @@ pub(crate) fn fetch_reasons<'a, D: Desk>(
     }
 }
 
-// The refusal for a released file of records of these fields that was not read.
+// The refusal for a released file of records of these fields that was not read. It is for want of memory
+// where the fault is that, or where no memory is left for its line.
 fn released_refusal<'a>(alloc: Global, fields: &[Field], fault: SheetFault) -> PageRefusal<'a>
     requires { IsOfFields fields.now fault }
     ensures { TellsReleased fields.now fault result }
@@ -73,7 +79,8 @@ fn released_refusal<'a>(alloc: Global, fields: &[Field], fault: SheetFault) -> P
     }
 }
 
-// The refusal for reasons that were not read.
+// The refusal for reasons that were not read. It is for want of memory where the fault is that, or where
+// no memory is left for its line.
 fn reasons_refusal<'a>(alloc: Global, fault: ReasonFault) -> PageRefusal<'a>
     ensures { TellsReasons fault result }
 {

@@ -3,6 +3,7 @@ ghost use Rattle.std.specs.Prelude.{◌≡◌};
 ghost use Rattle.page_command.specs.inner.PageParts.{out_of_memory, refusal_status, refusal_text};
 
 use crate::page_fault::ToldFault;
+use foundation::OutOfMemory;
 use run_parts::{Refusal, Status};
 
 /// Why the command ended before all was done.
@@ -22,7 +23,7 @@ impl<'a> PageRefusal<'a> {
         PageRefusal::Shared(Refusal::out_of_memory())
     }
 
-    /// How the run ends. No memory.
+    /// The status with which the run ends. No memory.
     pub(crate) fn status(&self) -> Status
         ensures { result ≡ refusal_status self.now }
     {
@@ -32,7 +33,7 @@ impl<'a> PageRefusal<'a> {
         }
     }
 
-    /// What is printed of it. No memory.
+    /// The line that is printed of it, without its line feed. No memory.
     pub(crate) fn line(&self) -> &[u8]
         ensures { result.now ≡ refusal_text self.now }
     {
@@ -49,7 +50,20 @@ impl<'a> From<Refusal<'a>> for PageRefusal<'a> {
 
     ghost from_gives = { λ shared refusal. refusal ≡ refusals.Shared shared };
 
+    // A fault that any command may meet is a refusal of this one, too.
     fn from(shared: Refusal<'a>) -> Self {
         PageRefusal::Shared(shared)
+    }
+}
+
+impl<'a> From<OutOfMemory> for PageRefusal<'a> {
+    ghost use Rattle.std.specs.Prelude.{◌≡◌};
+    ghost use Rattle.page_command.specs.inner.PageParts.{out_of_memory};
+
+    ghost from_gives = { λ memory refusal. refusal ≡ out_of_memory };
+
+    // A call below was refused memory: the command ends with this.
+    fn from(_: OutOfMemory) -> Self {
+        PageRefusal::out_of_memory()
     }
 }

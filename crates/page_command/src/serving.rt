@@ -1,4 +1,4 @@
-//! The whole of the program of pages.
+//! The whole of the program of pages: the call that its `main` makes with the words of the command line.
 ghost use Rattle.std.specs.Prelude.{◌≡◌, ◌≢◌, IfSome};
 ghost use Rattle.command_words.specs.Asked.{ForPage};
 ghost use Rattle.page_command.specs.PageFaults.{IsPageDue};
@@ -13,9 +13,10 @@ use foundation::OutOfMemory;
 use run_parts::{OUT_OF_MEMORY, Status, USAGE, refuse};
 use std::alloc::Global;
 
-/// Serves the words after the program's name, over a desk and a printer. `page` fetches and reads the rules, then the records, then the
-/// released file, then the reasons; it stores a page that shows what was changed, and prints how many records were clean, changed and left
-/// out. The first refusal in this order ends the call, and is printed.
+/// Serves the words after the program's name, over a desk and a printer. `page` fetches and reads the
+/// rules, then the records, then the released file, then the reasons. It stores a page that shows what
+/// was changed, and prints how many records were clean, changed and left out. The first refusal in this
+/// order ends the call, and is printed.
 pub fn page_main<D: Desk, P: Printer>(
     alloc: Global,
     words: &[String],

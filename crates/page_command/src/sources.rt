@@ -1,21 +1,27 @@
-//! The four files that the command reads.
-ghost use Rattle.std.specs.Prelude.{◌≡◌, IfErr, IfOk, IfSome, OnOk};
+//! The four files that the command reads, and what they read as. In contracts, `HoldsSources` says that
+//! the desk has four files that read as this. `Refuses` says that there is the cause that a refusal
+//! tells. `IsPageDue` says with which status the files are to be refused. `AnswersDue` says that such a
+//! status is answered, unless a file can't be read or memory is refused. `PutsOnRecord` says which calls
+//! the desk was asked.
+ghost use Rattle.std.specs.Prelude.{◌≡◌, IfErr, IfOk, IfSome};
+ghost use Rattle.std.specs.List.Sorted.{IsNonDecreasingBy};
 ghost use Rattle.edit_desk.specs.Desk.{PutsOnRecord};
 ghost use Rattle.edit_model.specs.Surveys.{IsWellFormed};
+ghost use Rattle.reason_lines.specs.declared.entry.Change.{Change as AnyChange};
+ghost use Rattle.release_figures.specs.Releases.{release_parts};
 ghost use Rattle.run_parts.specs.Readings.{AnswersDue};
 ghost use Rattle.page_command.specs.PageFaults.{IsPageDue};
-ghost use Rattle.page_command.specs.PageSources.{HasItsRows, HoldsSources};
-ghost use Rattle.page_command.specs.inner.PageParts.{AreReadCalls, IsOfRead, Refuses, RefusesRows, faults_behind, page_end};
+ghost use Rattle.page_command.specs.PageSources.{HoldsSources};
+ghost use Rattle.page_command.specs.inner.PageParts.{AreReadCalls, IsOfRead, Refuses, faults_behind, refusal_status};
 
-use crate::page_fault::ToldFault;
 use crate::reading::{fetch_reasons, fetch_released};
 use crate::refusal::PageRefusal;
 use command_words::PageWords;
 use edit_desk::Desk;
 use edit_model::Survey;
-use page_counts::released_rows;
 use reason_lines::Reasons;
 use record_text::Sheet;
+use release_figures::Release;
 use run_parts::fetch_input;
 use std::alloc::Global;
 use std::marker::Model;
@@ -32,16 +38,32 @@ pub(crate) struct Sources {
 impl Model for Sources {
     ghost use Rattle.std.specs.List.Sorted.{IsNonDecreasingBy};
     ghost use Rattle.reason_lines.specs.declared.entry.Change.{Change};
-    ghost use Rattle.page_command.specs.PageSources.{PageSources};
+    ghost use Rattle.release_figures.specs.Releases.{ReleaseParts};
 
-    ghost Value = { PageSources };
+    ghost Value = { ReleaseParts };
 
     ghost view = { λ s. record { survey = s.survey; records = s.records; released = s.released; reasons = s.reasons } };
 
     ghost invariant = { λ s. IsNonDecreasingBy (λ (c : Change). c.record) s.reasons.changes };
 }
 
-/// Fetches and reads the rules, the records, the released file and the reasons, and counts the rows of the released file.
+impl Sources {
+    /// The release that the page is about: the four parts, lent. No memory.
+    pub(crate) fn release(&self) -> Release<'_>
+        ensures is { release_parts result ≡ self.now }
+        ensures rising { IsNonDecreasingBy (λ (c : AnyChange). c.record) result.reasons.now.changes }
+    {
+        Release {
+            survey: &self.survey,
+            records: &self.records,
+            released: &self.released,
+            reasons: &self.reasons,
+        }
+    }
+}
+
+/// Fetches and reads the rules, the records, the released file and the reasons, in this order. The first
+/// refusal ends the call, and no later file is fetched.
 pub(crate) fn fetch_sources<'a, D: Desk>(
     alloc: Global,
     asked: &PageWords<'a>,
@@ -49,10 +71,10 @@ pub(crate) fn fetch_sources<'a, D: Desk>(
 ) -> Result<Sources, PageRefusal<'a>>
     ensures held { IfOk result (HoldsSources (D.files desk.old) asked.now) }
     ensures well_formed { IfOk result (λ sources. IsWellFormed sources.survey) }
-    ensures rows { IfOk result HasItsRows }
     ensures kind { IfErr result IsOfRead }
     ensures cause { IfErr result (Refuses asked.now (D.files desk.old)) }
-    ensures due { IfSome (D.files desk.old) (λ files. AnswersDue (IsPageDue asked.now files) (page_end result)) }
+    ensures due { IfErr result (λ refusal.
+        IfSome (D.files desk.old) (λ files. AnswersDue (IsPageDue asked.now files) (refusal_status refusal))) }
     ensures asked { PutsOnRecord (D.calls desk.old) (D.calls desk.new) (AreReadCalls asked.now result) }
     ensures faults { D.faults desk.new ≡ faults_behind result (D.faults desk.old) }
     ensures unchanged { D.files desk.new ≡ D.files desk.old }
@@ -60,31 +82,10 @@ pub(crate) fn fetch_sources<'a, D: Desk>(
     let (survey, records) = fetch_input(alloc, asked.rules, asked.records, desk)?;
     let released = fetch_released(alloc, asked.released, &survey, desk)?;
     let reasons = fetch_reasons(alloc, asked.reasons, &survey, records.len(), desk)?;
-    let sources = Sources {
+    Ok(Sources {
         survey,
         records,
         released,
         reasons,
-    };
-    check_rows(alloc, &sources)?;
-    Ok(sources)
-}
-
-// Sees that the released file has as many rows as there are records that the reasons do not leave out.
-fn check_rows<'a>(alloc: Global, sources: &Sources) -> Result<(), PageRefusal<'a>>
-    ensures rows { OnOk result (HasItsRows sources.now) }
-    ensures refused { IfErr result (RefusesRows sources.now) }
-{
-    let records = sources.records.len();
-    let Ok(kept) = released_rows(alloc, records, sources.reasons.left_out.as_slice()) else {
-        return Err(PageRefusal::out_of_memory());
-    };
-    let given = sources.released.len() as usize;
-    if given == kept.len() {
-        return Ok(());
-    }
-    match ToldFault::of_rows(alloc, given, kept.len()) {
-        Ok(told) => Err(PageRefusal::Unfit(told)),
-        Err(_) => Err(PageRefusal::out_of_memory()),
-    }
+    })
 }

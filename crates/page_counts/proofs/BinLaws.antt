@@ -1,21 +1,24 @@
 -- Where bins begin and end, and how many are needed.
 use Rattle.std.proofs.Common.{◌≡◌, ◌≢◌, ◌∙◌, ◌==◌, ℕ, ◌+◌, ◌*◌, ◌/◌, ◌^◌, ◌<◌, ◌≤◌, ℤ, pos, negsuc, ◌+ℤ◌, ◌-ℤ◌, ◌*ℤ◌, ◌≤ℤ◌, ◌<ℤ◌, unsigned_abs}
 use Rattle.std.proofs.Common.{◌&&◌, int_le, int_lt, cond, Bool, true, false, FitsSigned, refl, sym, ap, subst, arith}
-use Rattle.std.proofs.Common.{List, [], ◌∷◌, ◌++◌, map, Option}
+use Rattle.std.proofs.Common.{List, [], ◌∷◌, ◌++◌, map, not, Option}
 use Rattle.std.specs.Int.{int_div_euclid, int_max, int_min}
 use Rattle.std.specs.List.{count_by, range_with_len}
 use Rattle.std.proofs.lemmas.Bool.Decides.{nat_tests}
 use Rattle.std.proofs.lemmas.Int.{ints}
 use Rattle.std.proofs.lemmas.List.Folds.{fold-map}
 use Rattle.std.proofs.lemmas.List.FromFn.{map-range_with_len_more}
+use Rattle.std.proofs.lemmas.List.Sums.{sum_by-cons}
 use lib.IntN.{neg_ℤ}
 use Rattle.fraction128.proofs.Signs.{at_most_cancel, below_cancel}
 use Rattle.fraction128.proofs.Whole.{parts, ring, same_dif}
 use Rattle.std.proofs.Math.Nat.{one-le-pow, pow-le-pow_right}
 use mir.Syntax.{w128}
 use Rattle.edit_model.specs.declared.value.Value.{Value}
-use Rattle.page_counts.specs.Bins.{IsNarrowest, bin_low, bins_needed, is_between, is_in_bin, reaches, round_width}
-use Rattle.page_counts.specs.Thousandths.{thousandths_at}
+use Rattle.edit_model.specs.declared.value.Value.TheVariants.{Bad, Code, Number}
+use Rattle.page_counts.specs.Bins.{IsNarrowest, bin_low, bins_needed, is_between, is_in_bin, is_beyond, reaches, round_width}
+use Rattle.page_counts.specs.Rules.{is_number}
+use Rattle.page_counts.specs.Thousandths.{thousandths_at, thousandths_of}
 use Rattle.page_counts.specs.declared.bins.Bins.{Bins}
 
 -- ---- a quotient that is rounded down, and the next one
@@ -224,6 +227,37 @@ power_fits n low = record { sfits = omega (arith, low) }
 
 pub count_by_map : {A B : Type 0} (test : B → Bool) (f : A → B) (xs : List A) → count_by test (map f xs) ≡ count_by (λ x. test (f x)) xs
 count_by_map {A} {B} test f xs = fold-map (λ (a : ℕ) (y : B). a + cond (test y) 1 0) f 0 xs
+
+-- what is counted by one of two tests that exclude each other is counted by either
+split_counts : {A : Type 0} (p q r : A → Bool) → ((x : A) → cond (p x) 1 0 + cond (q x) 1 0 ≡ cond (r x) 1 0) → (xs : List A)
+    → count_by p xs + count_by q xs ≡ count_by r xs
+split_counts p q r one [] = refl
+split_counts {A} p q r one (x ∷ xs) =
+    let step = λ (t : A → Bool). sum_by-cons (λ (y : A). cond (t y) 1 0) x xs in
+    let here = one x in
+    let behind = split_counts p q r one xs in
+    omega (arith, step p, step q, step r, here, behind)
+
+-- a number is in no bin, or its thousandths are in some
+pub beyond_rest : (bins : Bins) (values : List Value) (ts : List (Option ℤ)) (count within numbers : ℕ) → ts ≡ map thousandths_at values
+    → count ≡ bins.count → within ≡ count_by (is_between (bin_low bins 0) (bin_low bins count)) ts → numbers ≡ count_by is_number values
+    → count_by (is_beyond bins) values + within ≡ numbers
+beyond_rest bins values ts count within numbers ts_are count_is within_is numbers_are =
+    ap (λ (n : ℕ). count_by (is_beyond bins) values + n) (within_is ∙ ap (λ (n : ℕ). count_by (is_between (bin_low bins 0) (bin_low bins n)) ts) count_is
+    ∙ ap (count_by test) ts_are ∙ count_by_map test thousandths_at values)
+    ∙ split_counts (is_beyond bins) (λ v. test (thousandths_at v)) is_number one values ∙ sym numbers_are
+  where
+    test : Option ℤ → Bool
+    test t = is_between (bin_low bins 0) (bin_low bins bins.count) t
+
+    either : (b : Bool) → cond (not b) 1 0 + cond b 1 0 ≡ 1
+    either true = refl
+    either false = refl
+
+    one : (v : Value) → cond (is_beyond bins v) 1 0 + cond (test (thousandths_at v)) 1 0 ≡ cond (is_number v) 1 0
+    one (Number x) = either (test (thousandths_of x))
+    one (Code c) = refl
+    one Bad = refl
 
 -- the bins with one more
 pub bins_more : (bins : Bins) (values : List Value) (i n : ℕ) (done counts : List ℕ) (ts : List (Option ℤ))

@@ -1,4 +1,5 @@
-//! Records or donors by an amount.
+//! Records or donors by an amount: how many have each, and which have the greatest. In contracts,
+//! `IsTally` and `AreGreatest` say so.
 ghost use Rattle.std.specs.BTreeMap.{get};
 ghost use Rattle.std.specs.Prelude.{◌≡◌, ◌==◌, ◌≤◌, ℕ, IfOk, IfSome, count_by, unwrap_or};
 ghost use Rattle.std.specs.Ordering.{nat_cmp};
@@ -11,7 +12,8 @@ use std::alloc::Global;
 use std::cmp::Ordering;
 use std::collections::BTreeMap;
 
-/// The number of a record or a donor, and an amount of it: what its change weighs, or to how many records it gave.
+/// The number of a record or a donor, from 0, and its amount: what its change weighs, or to how many
+/// records it gave.
 #[derive(Clone, Copy, Debug, PartialEq, Eq)]
 pub struct Amount {
     pub number: u32,
@@ -40,7 +42,7 @@ pub fn tally(alloc: Global, amounts: &[Amount]) -> Result<Vec<SizeCount>, OutOfM
     Ok(counts)
 }
 
-// How many of the amounts are of each size.
+// How many of the amounts are of each size that occurs, by size.
 fn counts_by_size(alloc: Global, amounts: &[Amount]) -> Result<BTreeMap<u128, usize>, OutOfMemory>
     ensures counts { IfOk result (λ by_size. (size : ℕ)
         → unwrap_or (get nat_cmp by_size size) 0 ≡ count_by (λ (a : AnyAmount). a.size == size) amounts.now) }
@@ -53,7 +55,8 @@ fn counts_by_size(alloc: Global, amounts: &[Amount]) -> Result<BTreeMap<u128, us
     Ok(counts)
 }
 
-/// The greatest amounts, at most `most` of them: the greater first, and of equal ones that of the earlier number.
+/// The greatest amounts, at most `most` of them: the greater first, and of equal ones that of the
+/// earlier number.
 pub fn greatest_amounts(
     alloc: Global,
     amounts: &[Amount],
@@ -67,7 +70,7 @@ pub fn greatest_amounts(
     Ok(sorted)
 }
 
-// Puts the amounts in order.
+// Puts the amounts in order: the greater first, and of equal ones that of the earlier number.
 fn sort(amounts: &mut Vec<Amount>)
     ensures same { IsPermutation amounts.old.items amounts.new.items }
     ensures order { IsSorted amount_order amounts.new.items }

@@ -1,9 +1,11 @@
 //! How many numbers each bin has.
-ghost use Rattle.std.specs.Prelude.{◌≡◌, ◌+◌, ◌<◌, IfOk, count_by};
+ghost use Rattle.std.specs.Prelude.{◌≡◌, ◌≤◌, IfOk, count_by, map};
 ghost use Rattle.page_counts.specs.Bins.{bin_counts, bin_low, is_between, is_beyond};
+ghost use Rattle.page_counts.specs.Thousandths.{thousandths_at};
 
 use crate::bins::Bins;
-use crate::thousandth::{thousandths, thousandths_at};
+use crate::columns::number_count;
+use crate::thousandth::thousandths;
 use edit_model::Value;
 use foundation::{OutOfMemory, Sequence};
 use std::alloc::Global;
@@ -23,20 +25,21 @@ pub fn histogram(alloc: Global, values: &[Value], bins: &Bins) -> Result<BinCoun
     let thousandths = thousandths(alloc, values)?;
     let mut counts = Vec::with_capacity(alloc, bins.count() as usize)?;
     for i in 0..bins.count() {
-        counts.push(bin_count(&thousandths, bins, i))?;
+        counts.push(count_among(&thousandths, bins, i, i + 1))?;
     }
     Ok(BinCounts {
         counts: Sequence::from_vec(counts),
-        beyond: beyond_count(values, bins),
+        beyond: beyond_count(values, &thousandths, bins),
     })
 }
 
-// How many are in bin i.
-fn bin_count(thousandths: &[Option<i128>], bins: &Bins, i: u32) -> usize
-    requires { i < 20 }
-    ensures { result ≡ count_by (is_between (bin_low bins.now i) (bin_low bins.now (i + 1))) thousandths.now }
+// How many are in the bins from one on, and before the other.
+fn count_among(thousandths: &[Option<i128>], bins: &Bins, first: u32, end: u32) -> usize
+    requires first { first ≤ 20 }
+    requires end { end ≤ 20 }
+    ensures { result ≡ count_by (is_between (bin_low bins.now first) (bin_low bins.now end)) thousandths.now }
 {
-    count_between(thousandths, bins.low(i), bins.low(i + 1))
+    count_between(thousandths, bins.low(first), bins.low(end))
 }
 
 // How many are from the first number on, and below the second.
@@ -59,17 +62,10 @@ fn is_between(thousandths: Option<i128>, low: i128, high: i128) -> bool
     }
 }
 
-// How many numbers are in no bin.
-fn beyond_count(values: &[Value], bins: &Bins) -> usize
+// How many numbers are in no bin: all but those that are in some.
+fn beyond_count(values: &[Value], thousandths: &[Option<i128>], bins: &Bins) -> usize
+    requires { thousandths.now ≡ map thousandths_at values.now }
     ensures { result ≡ count_by (is_beyond bins.now) values.now }
 {
-    values.iter().filter(|value| is_beyond(value, bins)).count()
-}
-
-// Whether the value is a number that is in no bin.
-fn is_beyond(value: &Value, bins: &Bins) -> bool
-    ensures { result ≡ is_beyond bins.now value.now }
-{
-    matches!(value, Value::Number(_))
-        && !is_between(thousandths_at(value), bins.low(0), bins.low(bins.count()))
+    number_count(values) - count_among(thousandths, bins, 0, bins.count())
 }

@@ -1,4 +1,5 @@
-//! Bins over numbers: where they begin, and which serve.
+//! Bins over numbers: where they begin, and which serve. In contracts, `IsWithin` says that thousandths
+//! are in one of the bins, and `IsNarrowest` that no narrower width of those that bins may have serves.
 ghost use Rattle.std.specs.Prelude.{◌≡◌, ◌*◌, ◌≤◌, ◌^◌, ◌*ℤ◌, ◌<ℤ◌, ◌≤ℤ◌, pos, unsigned_abs};
 ghost use Rattle.std.specs.Int.{int_div_euclid, int_max, int_min};
 ghost use Rattle.page_counts.specs.Bins.{IsNarrowest, IsWithin, bin_low, bins_needed};
@@ -8,7 +9,7 @@ use crate::thousandth::rounded_down;
 use crate::widths::{bins_needed, width_over};
 
 impl Bins {
-    /// Where bin i begins, in thousandths; at i the number of bins, where the last one ends.
+    /// Where bin `i` begins, in thousandths. For `i` the number of bins, it is where the last one ends.
     pub fn low(&self, i: u32) -> i128
         requires { i ≤ 20 }
         ensures { result ≡ bin_low self.now i }
@@ -17,8 +18,9 @@ impl Bins {
     }
 }
 
-/// The narrowest bins, at most 20 and not narrower than `unit`, that have the thousandths from one number to another: their width is
-/// 1, 2 or 5 times a power of ten, and the first begins at a multiple of it. A unit of 1000 has bins of whole numbers.
+/// The narrowest bins, at most 20 and not narrower than `unit`, that have the thousandths `one` and
+/// `other` and all between. Their width is 1, 2 or 5 times a power of ten, and the first begins at a
+/// multiple of it. With a unit of 1000 bins begin at whole numbers.
 pub fn bins_over(one: i128, other: i128, unit: i128) -> Bins
     requires one { unsigned_abs one ≤ 10 ^ 36 }
     requires other { unsigned_abs other ≤ 10 ^ 36 }
@@ -36,7 +38,7 @@ pub fn bins_over(one: i128, other: i128, unit: i128) -> Bins
     }
 }
 
-// The narrowest bins from the least number to the greatest.
+// The narrowest bins from the thousandths `least` to `greatest` that are not narrower than `unit`.
 fn bins_between(least: i128, greatest: i128, unit: i128) -> Bins
     requires least { unsigned_abs least ≤ 10 ^ 36 }
     requires greatest { unsigned_abs greatest ≤ 10 ^ 36 }
@@ -51,7 +53,7 @@ fn bins_between(least: i128, greatest: i128, unit: i128) -> Bins
     bins_of(least, greatest, width_over(least, greatest, unit))
 }
 
-// The bins of this width from that of the least number to that of the greatest.
+// The bins of this width, from that which has the least number to that which has the greatest.
 fn bins_of(least: i128, greatest: i128, width: i128) -> Bins
     requires least { unsigned_abs least ≤ 10 ^ 36 }
     requires greatest { unsigned_abs greatest ≤ 10 ^ 36 }
@@ -70,7 +72,7 @@ fn bins_of(least: i128, greatest: i128, width: i128) -> Bins
     }
 }
 
-// How many bins there are, as a count.
+// How many bins there are, as a number of 32 bits.
 fn count_of(needed: i128) -> u32
     requires some { pos 1 ≤ℤ needed }
     requires few { needed ≤ℤ pos 20 }
@@ -81,7 +83,7 @@ fn count_of(needed: i128) -> u32
     needed as u32
 }
 
-// Where the bin of a number begins.
+// Where the bin of a number begins: at the last multiple of the width that is not above it.
 fn first_of(least: i128, width: i128) -> i128
     requires least { unsigned_abs least ≤ 10 ^ 36 }
     requires wide { pos 0 <ℤ width }

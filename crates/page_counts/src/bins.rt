@@ -1,7 +1,8 @@
 //! Bins of equal width over thousandths.
 ghost use Rattle.std.specs.Prelude.{◌≡◌, ◌*◌, ◌≤◌, ◌^◌, ◌<ℤ◌, pos, unsigned_abs};
 
-/// Bins of equal width over thousandths, at most 20: bin i, from 0, has those from `low` of i on that are below `low` of i + 1.
+/// Bins of equal width over thousandths, at most 20. Bin i, from 0, has those from `low` of i on that
+/// are below `low` of i + 1.
 #[derive(Clone, Copy, Debug, PartialEq, Eq)]
 pub struct Bins {
     pub(crate) first: i128,

@@ -15,7 +15,7 @@ pub struct CodeCounts {
     pub none: usize,
 }
 
-/// How many of the values each of the first `codes` codes is, and how many are Bad.
+/// How many of the values each of the first `codes` codes is, and how many are missing (Bad).
 pub fn code_counts(alloc: Global, values: &[Value], codes: u32) -> Result<CodeCounts, OutOfMemory>
     ensures by_code { IfOk result (λ counts. counts.by_code ≡ code_counts codes values.now) }
     ensures none { IfOk result (λ counts. counts.none ≡ count_by is_bad values.now) }

@@ -1,4 +1,4 @@
-//! Thousandths as decimal numbers.
+//! Thousandths as decimal numbers, such as `-1.5` for -1500.
 ghost use Rattle.std.specs.Prelude.{◌≡◌, ◌+◌, ◌++◌, ◌<◌, IfOk, OnOk};
 ghost use Rattle.std.specs.Fmt.{decimal};
 ghost use Rattle.page_counts.specs.Thousandths.{decimal_text, digit, digits_behind, rest_text, sign_text};
@@ -6,8 +6,9 @@ ghost use Rattle.page_counts.specs.Thousandths.{decimal_text, digit, digits_behi
 use foundation::OutOfMemory;
 use std::alloc::Global;
 
-/// So many thousandths as a decimal number in ASCII: a minus sign where it is below 0, the whole part, and where the rest is not 0 a
-/// point and its digits without zeros at the end. -1500 is `-1.5`, 250 is `0.25`, 3000 is `3`.
+/// So many thousandths as a decimal number in ASCII. It has a minus sign where it is below 0, and the
+/// whole part. Where the rest is not 0, a point and its digits follow, without zeros at the end: 250 is
+/// `0.25`, 3000 is `3`.
 pub fn decimal_text(alloc: Global, thousandths: i128) -> Result<Vec<u8>, OutOfMemory>
     ensures { IfOk result (λ text. text.items ≡ decimal_text thousandths) }
 {
@@ -38,7 +39,7 @@ fn push_whole(alloc: Global, text: &mut Vec<u8>, whole: u128) -> Result<(), OutO
     Ok(())
 }
 
-// Appends what stands behind the whole part.
+// Appends what stands behind the whole part, where `rest` thousandths are left: nothing for 0.
 fn push_rest(text: &mut Vec<u8>, rest: u32) -> Result<(), OutOfMemory>
     requires { rest < 1000 }
     ensures { OnOk result (text.new.items ≡ text.old.items ++ rest_text rest) }
@@ -50,7 +51,7 @@ fn push_rest(text: &mut Vec<u8>, rest: u32) -> Result<(), OutOfMemory>
     push_digits(text, rest)
 }
 
-// Appends the digits of tenths, hundredths and thousandths, without zeros at the end.
+// Appends the digits of tenths, hundredths and thousandths of `rest`, without zeros at the end.
 fn push_digits(text: &mut Vec<u8>, rest: u32) -> Result<(), OutOfMemory>
     requires { rest < 1000 }
     ensures { OnOk result (text.new.items ≡ text.old.items ++ digits_behind rest) }
@@ -67,7 +68,7 @@ fn push_digits(text: &mut Vec<u8>, rest: u32) -> Result<(), OutOfMemory>
     Ok(())
 }
 
-// The byte of a digit.
+// The byte of a digit in ASCII.
 fn digit(number: u32) -> u8
     requires { number < 10 }
     ensures { result ≡ digit number }

@@ -1,6 +1,6 @@
 //! How often a field was changed.
 ghost use Rattle.std.specs.Prelude.{◌≡◌};
-ghost use Rattle.page_counts.specs.Fields.{change_count, is_how};
+ghost use Rattle.page_counts.specs.Fields.{change_count};
 
 use reason_lines::{Change, How};
 
@@ -18,30 +18,19 @@ pub fn field_count(changes: &[Change], field: u32) -> FieldCount
     ensures nearest { result.nearest ≡ change_count How.Nearest field changes.now }
     ensures default { result.default ≡ change_count How.Default field changes.now }
 {
-    FieldCount {
-        donor: change_count(How::Donor, field, changes),
-        nearest: change_count(How::Nearest, field, changes),
-        default: change_count(How::Default, field, changes),
+    let mut count = FieldCount {
+        donor: 0,
+        nearest: 0,
+        default: 0,
+    };
+    for change in changes {
+        if change.field == field {
+            match change.how {
+                How::Donor => count.donor += 1,
+                How::Nearest => count.nearest += 1,
+                How::Default => count.default += 1,
+            }
+        }
     }
-}
-
-// How many changes of the field were made in this way.
-fn change_count(how: How, field: u32, changes: &[Change]) -> usize
-    ensures { result ≡ change_count how field changes.now }
-{
-    changes
-        .iter()
-        .filter(|change| change.field == field && is_how(how, change.how))
-        .count()
-}
-
-// Whether two ways are one.
-fn is_how(how: How, other: How) -> bool
-    ensures { result ≡ is_how how other }
-{
-    match how {
-        How::Donor => matches!(other, How::Donor),
-        How::Nearest => matches!(other, How::Nearest),
-        How::Default => matches!(other, How::Default),
-    }
+    count
 }

@@ -1,4 +1,4 @@
-//! How often donors gave.
+//! How often donors gave: to how many records each.
 ghost use Rattle.std.specs.Prelude.{◌≡◌, ◌∷◌, ◌++◌, ◌≤◌, ◌^◌, [], All, IfOk, OnOk, if◌then◌else◌, nat_lt};
 ghost use Rattle.std.specs.List.Sorted.{IsNonDecreasingBy};
 ghost use Rattle.reason_lines.specs.declared.entry.Change.{Change as AnyChange};
@@ -18,8 +18,9 @@ struct Gifts {
     last: Option<u32>,
 }
 
-/// Those of `rows` records that gave values to others, by rising number, with the number of records to which each gave. The changes
-/// stand in the order of their records.
+/// Those of `rows` records that gave values to others, by rising number, with the number of records to
+/// which each gave. The changes stand in the order of their records, so that a record counts once for a
+/// donor.
 pub fn donors(alloc: Global, rows: u32, changes: &[Change]) -> Result<Vec<Amount>, OutOfMemory>
     requires { IsNonDecreasingBy (λ (c : AnyChange). c.record) changes.now }
     ensures { IfOk result (λ donors. donors.items ≡ donors_of rows changes.now) }
@@ -32,7 +33,7 @@ pub fn donors(alloc: Global, rows: u32, changes: &[Change]) -> Result<Vec<Amount
     Ok(donors)
 }
 
-// Appends a donor, if it gave to some record.
+// Appends the donor `number`, which gave to `count` records, if these are some.
 fn keep(donors: &mut Vec<Amount>, number: u32, count: u64) -> Result<(), OutOfMemory>
     ensures { OnOk result (donors.new.items ≡ donors.old.items
         ++ (if nat_lt 0 count then record { number = number; size = count } ∷ [] else [])) }
@@ -46,7 +47,7 @@ fn keep(donors: &mut Vec<Amount>, number: u32, count: u64) -> Result<(), OutOfMe
     Ok(())
 }
 
-// For each of the records, to how many it gave, and the last of these.
+// For each of `rows` records, to how many it gave, and the last of these.
 fn gifts_of(alloc: Global, rows: u32, changes: &[Change]) -> Result<Vec<Gifts>, OutOfMemory>
     requires { IsNonDecreasingBy (λ (c : AnyChange). c.record) changes.now }
     ensures { IfOk result (λ gifts. AreAllGifts rows changes.now gifts.items) }
@@ -64,7 +65,7 @@ fn gifts_of(alloc: Global, rows: u32, changes: &[Change]) -> Result<Vec<Gifts>, 
     Ok(gifts)
 }
 
-// Notes what a change was given by its donor, where this is one of the records.
+// Notes that a change got its value from its donor, where it has one, and this is one of the records.
 fn note(gifts: &mut Vec<Gifts>, change: &Change)
     requires { All (λ (g : AnyGifts). g.count ≤ 2 ^ 32) gifts.old.items }
     ensures { gifts.new.items ≡ noted gifts.old.items change.now }
@@ -77,7 +78,7 @@ fn note(gifts: &mut Vec<Gifts>, change: &Change)
     }
 }
 
-// A donor's gifts with one to this record; a record that is the last already counts once.
+// A donor's gifts with one to the record `number`. A record that is the last already counts once.
 fn with_gift(gifts: Gifts, number: u32) -> Gifts
     requires { gifts.count ≤ 2 ^ 32 }
     ensures { result ≡ with_gift gifts number }

@@ -1,5 +1,6 @@
-//! What a page says of an edit, counted: of its records, of the changes of their fields, of the rules, and of the values before and
-//! after. The definitions are in `specs/`; each count is the number of rows or changes of which it is said.
+//! What a page says of an edit, counted: of its records, the changes of their fields, the rules, and the
+//! values before and after. The definitions are in `specs/`; each count is the number of rows or changes
+//! of which it is said.
 #![tactic(auto)]
 
 mod amounts;
@@ -26,7 +27,7 @@ pub use bin_counts::{BinCounts, histogram};
 pub use binning::bins_over;
 pub use bins::Bins;
 pub use codes::{CodeCounts, code_counts};
-pub use columns::{bad_count, column};
+pub use columns::{bad_count, column, number_count};
 pub use decimals::decimal_text;
 pub use fields::{FieldCount, field_count};
 pub use giving::donors;

@@ -6,7 +6,7 @@ use foundation::OutOfMemory;
 use reason_lines::{Change, LeftOut};
 use std::alloc::Global;
 
-// For each of so many records whether it was changed.
+// For each of `rows` records whether it was changed.
 pub(crate) fn changed_marks(
     alloc: Global,
     rows: u32,
@@ -20,7 +20,7 @@ pub(crate) fn changed_marks(
     Ok(marks)
 }
 
-// For each of so many records whether it was left out.
+// For each of `rows` records whether it was left out.
 pub(crate) fn left_out_marks(
     alloc: Global,
     rows: u32,
@@ -34,7 +34,7 @@ pub(crate) fn left_out_marks(
     Ok(marks)
 }
 
-// For each of so many records whether it was changed or left out.
+// For each of `rows` records whether it was changed or left out.
 pub(crate) fn unclean_marks(
     alloc: Global,
     rows: u32,
@@ -50,14 +50,14 @@ pub(crate) fn unclean_marks(
     Ok(marks)
 }
 
-// No record is marked yet.
+// A mark for each of `rows` records, all false.
 fn no_marks(alloc: Global, rows: u32) -> Result<Vec<bool>, OutOfMemory>
     ensures { IfOk result (λ marks. marks.items ≡ replicate rows false) }
 {
     Ok(vec![in alloc; false; rows as usize]?)
 }
 
-// Marks the records of the changes.
+// Marks the records of the changes; one past the last mark is passed over.
 fn mark_changed(marks: &mut Vec<bool>, changes: &[Change])
     ensures same { vec_len marks.new ≡ vec_len marks.old }
     ensures marked { (k : ℕ) → k < vec_len marks.old
@@ -68,7 +68,7 @@ fn mark_changed(marks: &mut Vec<bool>, changes: &[Change])
     }
 }
 
-// Marks the records that were left out.
+// Marks the records that were left out; one past the last mark is passed over.
 fn mark_left_out(marks: &mut Vec<bool>, left_out: &[LeftOut])
     ensures same { vec_len marks.new ≡ vec_len marks.old }
     ensures marked { (k : ℕ) → k < vec_len marks.old
@@ -79,7 +79,7 @@ fn mark_left_out(marks: &mut Vec<bool>, left_out: &[LeftOut])
     }
 }
 
-// Marks the record, where there is a mark for it.
+// Marks the record of this number, where there is a mark for it.
 fn mark(marks: &mut Vec<bool>, number: u32)
     ensures { marks.new.items ≡ slice_set marks.old.items number true }
 {

@@ -1,4 +1,6 @@
-//! The sum, the least and the greatest of the numbers among some values.
+//! The sum, the least and the greatest of the numbers among some values; codes and missing values don't
+//! count. In contracts, `IsLeast` and `IsGreatest` say so of a number, and `HaveNoNumber` says that no
+//! value is one.
 ghost use Rattle.std.specs.Prelude.{◌≡◌, ◌⊎◌, ◌∷◌, ◌++◌, [], List, MatchOption, pos};
 ghost use Rattle.fraction128.specs.Formulas.{answered, ratio_of};
 ghost use Rattle.edit_model.specs.declared.value.Value.{Value as AnyValue};
@@ -9,7 +11,8 @@ use edit_model::Value;
 use fraction128::{Fraction, Overflow};
 use std::cmp::Ordering;
 
-/// The sum of the numbers among the values, added one after the other. Overflow exactly where a number leaves the range. No memory.
+/// The sum of the numbers among the values, added one after the other. It overflows exactly where a
+/// number leaves the range on that way. No memory.
 pub fn sum_of(values: &[Value]) -> Result<Fraction, Overflow>
     ensures { answered result ≡ sum_of values.now }
 {
@@ -27,7 +30,7 @@ fn zero() -> Fraction
     Fraction::whole(0)
 }
 
-// The sum with a value; what is no number adds nothing.
+// The sum with a value more; what is no number adds nothing.
 fn sum_with(sum: Fraction, value: &Value) -> Result<Fraction, Overflow>
     ensures { answered result ≡ sum_with (ratio_of sum) value.now }
 {
@@ -59,7 +62,8 @@ pub fn greatest(values: &[Value]) -> Option<Fraction>
     greatest
 }
 
-// The least of some values, with one more.
+// The least number among some values and one more, where `least` is that of the former. None where there
+// is no number.
 fn with_least(least: Option<Fraction>, value: &Value) -> Option<Fraction>
     ensures { (values : List AnyValue) → MatchOption least (HaveNoNumber values) (IsLeast values)
         → MatchOption result (HaveNoNumber (values ++ value.now ∷ [])) (IsLeast (values ++ value.now ∷ [])) }
@@ -71,7 +75,8 @@ fn with_least(least: Option<Fraction>, value: &Value) -> Option<Fraction>
     }
 }
 
-// The least of some values, with a number more.
+// The least number among some values and the number `number`, where `least` is that of the former, if
+// there is one.
 fn lesser_of(least: Option<Fraction>, number: Fraction) -> Fraction
     ensures { (values : List AnyValue) → MatchOption least (HaveNoNumber values) (IsLeast values)
         → IsLeast (values ++ any.Number number ∷ []) result }
@@ -82,7 +87,8 @@ fn lesser_of(least: Option<Fraction>, number: Fraction) -> Fraction
     }
 }
 
-// The greatest of some values, with one more.
+// The greatest number among some values and one more, where `greatest` is that of the former. None where
+// there is no number.
 fn with_greatest(greatest: Option<Fraction>, value: &Value) -> Option<Fraction>
     ensures { (values : List AnyValue) → MatchOption greatest (HaveNoNumber values) (IsGreatest values)
         → MatchOption result (HaveNoNumber (values ++ value.now ∷ [])) (IsGreatest (values ++ value.now ∷ [])) }
@@ -94,7 +100,8 @@ fn with_greatest(greatest: Option<Fraction>, value: &Value) -> Option<Fraction>
     }
 }
 
-// The greatest of some values, with a number more.
+// The greatest number among some values and the number `number`, where `greatest` is that of the former,
+// if there is one.
 fn greater_of(greatest: Option<Fraction>, number: Fraction) -> Fraction
     ensures { (values : List AnyValue) → MatchOption greatest (HaveNoNumber values) (IsGreatest values)
         → IsGreatest (values ++ any.Number number ∷ []) result }
@@ -105,7 +112,7 @@ fn greater_of(greatest: Option<Fraction>, number: Fraction) -> Fraction
     }
 }
 
-// The lesser of two numbers.
+// The lesser of two numbers, and the first of equal ones.
 fn lesser(x: Fraction, y: Fraction) -> Fraction
     ensures one { (result ≡ x) ⊎ (result ≡ y) }
     ensures first { IsAtMost result x }
@@ -117,7 +124,7 @@ fn lesser(x: Fraction, y: Fraction) -> Fraction
     }
 }
 
-// The greater of two numbers.
+// The greater of two numbers, and the first of equal ones.
 fn greater(x: Fraction, y: Fraction) -> Fraction
     ensures one { (result ≡ x) ⊎ (result ≡ y) }
     ensures first { IsAtLeast result x }

@@ -19,8 +19,8 @@ pub struct RecordCounts {
     pub no_correction: usize,
 }
 
-/// How many of `rows` records were clean, changed, and left out by each cause. A record is changed where some change is one of it, and
-/// clean where it is neither changed nor left out.
+/// How many of `rows` records were clean, changed, and left out by each cause. A record is changed where
+/// some change is one of it, and clean where it is neither changed nor left out.
 pub fn record_counts(
     alloc: Global,
     rows: u32,
@@ -46,7 +46,7 @@ pub fn record_counts(
     })
 }
 
-// How many of the records were neither changed nor left out.
+// How many of `rows` records were neither changed nor left out.
 fn clean_count(
     alloc: Global,
     rows: u32,
@@ -59,7 +59,7 @@ fn clean_count(
     Ok(unmarked(&marks))
 }
 
-// How many of the records were changed.
+// How many of `rows` records were changed.
 fn changed_count(alloc: Global, rows: u32, changes: &[Change]) -> Result<usize, OutOfMemory>
     ensures { IfOk result (λ count. count ≡ changed_count rows changes.now) }
 {
@@ -67,14 +67,14 @@ fn changed_count(alloc: Global, rows: u32, changes: &[Change]) -> Result<usize, 
     Ok(marked(&marks))
 }
 
-// How many marks are there.
+// How many of the marks are true.
 fn marked(marks: &[bool]) -> usize
     ensures { result ≡ count_by (λ (mark : Bool). mark) marks.now }
 {
     marks.iter().filter(|mark| **mark).count()
 }
 
-// How many marks are not there.
+// How many of the marks are false.
 fn unmarked(marks: &[bool]) -> usize
     ensures { result ≡ count_by not marks.now }
 {

@@ -8,7 +8,8 @@ use foundation::OutOfMemory;
 use reason_lines::LeftOut;
 use std::alloc::Global;
 
-/// The numbers, in rising order, of those of `rows` records that were not left out: the rows of the released file.
+/// The numbers, from 0 and in rising order, of those of `rows` records that were not left out: the rows
+/// of the released file.
 pub fn released_rows(
     alloc: Global,
     rows: u32,
@@ -26,7 +27,7 @@ pub fn released_rows(
     Ok(numbers)
 }
 
-// Appends the number of a record that was not left out.
+// Appends the number of a record, where it was not left out.
 fn keep(numbers: &mut Vec<u32>, number: u32, is_left_out: bool) -> Result<(), OutOfMemory>
     ensures { OnOk result (numbers.new.items ≡ numbers.old.items ++ (if is_left_out then [] else number ∷ [])) }
 {

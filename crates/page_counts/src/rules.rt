@@ -1,4 +1,4 @@
-//! How many records break each rule.
+//! How many records break each rule, and at how many it can't be tried.
 ghost use Rattle.std.specs.Prelude.{◌≡◌, ◌+◌, ◌<◌, ◌≤◌, IfOk, length, map, replicate, take};
 ghost use Rattle.page_counts.specs.Rules.{no_count, rule_count};
 
@@ -15,8 +15,8 @@ pub struct RuleCount {
     pub untried: usize,
 }
 
-/// For each rule, in declared order, how many of the sheet's records break it, and at how many it cannot be tried. Each rule is tried at
-/// each record.
+/// For each rule, in declared order, how many of the sheet's records break it, and at how many it can't
+/// be tried. Each rule is tried at each record.
 pub fn rule_counts(
     alloc: Global,
     survey: &Survey,
@@ -32,7 +32,7 @@ pub fn rule_counts(
     Ok(counts)
 }
 
-// No counts yet, for so many rules.
+// The counts of as many rules as `rules` says, before any record is counted: all are 0.
 fn no_counts(alloc: Global, rules: usize) -> Result<Vec<RuleCount>, OutOfMemory>
     ensures { IfOk result (λ counts. counts.items ≡ replicate rules no_count) }
 {
@@ -43,7 +43,7 @@ fn no_counts(alloc: Global, rules: usize) -> Result<Vec<RuleCount>, OutOfMemory>
     Ok(vec![in alloc; none; rules]?)
 }
 
-// Counts the row of this number for each rule, behind the rows before it.
+// Counts the row `row_no` for each rule, where `counts` has the counts of the rows before it.
 fn count_row(counts: &mut Vec<RuleCount>, rules: &[Rule], sheet: &Sheet, row_no: u32)
     requires row { row_no < length sheet.now.rows }
     requires counted { counts.old.items ≡ map (rule_count (take row_no sheet.now.rows)) rules.now }
@@ -54,7 +54,7 @@ fn count_row(counts: &mut Vec<RuleCount>, rules: &[Rule], sheet: &Sheet, row_no:
     }
 }
 
-// The counts of a rule with the row of this number, behind the rows before it.
+// The counts of a rule with the row `row_no`, where `count` has those of the rows before it.
 fn with_row(count: RuleCount, rule: &Rule, sheet: &Sheet, row_no: u32) -> RuleCount
     requires row { row_no < length sheet.now.rows }
     requires counted { count ≡ rule_count (take row_no sheet.now.rows) rule.now }

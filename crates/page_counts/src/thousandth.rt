@@ -11,7 +11,8 @@ use std::alloc::Global;
 // The greatest size of a numerator of which the thousandths are counted.
 const MOST_NUMERATOR: u128 = 1_000_000_000_000_000_000_000_000_000_000_000;
 
-/// How many thousandths the number is, rounded down; None where its numerator is above 10^33 in size. No memory.
+/// How many thousandths the number is, rounded down: -1/3 is -334. None where its numerator is above
+/// 10^33 in size. No memory.
 pub fn thousandths_of(number: &Fraction) -> Option<i128>
     ensures is { result ≡ thousandths_of number.now }
     ensures few { IfSome result (λ thousandths. unsigned_abs thousandths ≤ 10 ^ 36) }
@@ -22,7 +23,7 @@ pub fn thousandths_of(number: &Fraction) -> Option<i128>
     Some(rounded_down(thousand_times(number), number.denominator()))
 }
 
-// How many thousandths each value is.
+// How many thousandths each value is, and None where that can't be told.
 pub(crate) fn thousandths(alloc: Global, values: &[Value]) -> Result<Vec<Option<i128>>, OutOfMemory>
     ensures { IfOk result (λ thousandths. thousandths.items ≡ map thousandths_at values.now) }
 {
@@ -53,7 +54,7 @@ fn thousand_times(number: &Fraction) -> i128
     1000 * number.numerator()
 }
 
-// A quotient, rounded down.
+// The quotient of `size` and `unit`, rounded down.
 pub(crate) fn rounded_down(size: i128, unit: i128) -> i128
     requires few { unsigned_abs size ≤ 10 ^ 36 }
     requires some { pos 0 <ℤ unit }

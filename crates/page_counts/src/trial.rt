@@ -15,8 +15,8 @@ pub fn can_try(rule: &Rule, row: &Row) -> bool
     have_values(rule.conditions.as_slice(), row) && has_values(&rule.conclusion, row)
 }
 
-/// Whether the rule holds at the record; None where the record has no value in a field that the rule reads, or a number of a sum that is
-/// tried leaves the range. No memory.
+/// Whether the rule holds at the record. None where the record has no value in a field that the rule
+/// reads, or a sum that is tried leaves the range. No memory.
 pub fn answer_at(rule: &Rule, row: &Row) -> Option<bool>
     ensures { result ≡ answer_at row.now rule.now }
 {

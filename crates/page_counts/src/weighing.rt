@@ -32,7 +32,8 @@ pub fn weights(
     Ok(weights)
 }
 
-// For each of the records the sum of the weights of its changed fields.
+// For each of `rows` records the sum of the weights of its changed fields: 0 for a record that was not
+// changed.
 fn weight_sums(
     alloc: Global,
     survey: &Survey,
@@ -59,7 +60,7 @@ fn field_weight(survey: &Survey, field: u32) -> u32
     }
 }
 
-// Appends the weight of a record, if it was changed.
+// Appends the weight of the record `number`, which is `size`, if it was changed.
 fn keep(
     weights: &mut Vec<Amount>,
     number: u32,

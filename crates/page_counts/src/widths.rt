@@ -1,4 +1,6 @@
-//! The widths that bins may have.
+//! The widths that bins may have: 1, 2 or 5 times a power of ten, in thousandths. In contracts,
+//! `IsNarrowest` says that a width is the least of these by which at most 20 bins reach, and that isn't
+//! below the unit.
 ghost use Rattle.std.specs.Prelude.{◌≡◌, ◌*◌, ◌<◌, ◌≤◌, ◌^◌, ◌∷◌, [], ◌+ℤ◌, ◌-ℤ◌, ◌<ℤ◌, ◌≤ℤ◌, pos, slice_index, unsigned_abs};
 ghost use Rattle.page_counts.specs.Bins.{IsNarrowest, bins_needed, reaches, round_width};
 
@@ -7,7 +9,8 @@ use crate::thousandth::rounded_down;
 // The step of the widest bins: they are 10^36 thousandths wide.
 const LAST_STEP: u32 = 108;
 
-// The least of the round widths that reach from one number to the other.
+// The least of these widths that is not below `unit`, and by which at most 20 bins have `least` and
+// `greatest`. The last one always serves, since the numbers are at most 10^36 in size.
 pub(crate) fn width_over(least: i128, greatest: i128, unit: i128) -> i128
     requires least { unsigned_abs least ≤ 10 ^ 36 }
     requires greatest { unsigned_abs greatest ≤ 10 ^ 36 }
@@ -26,7 +29,8 @@ pub(crate) fn width_over(least: i128, greatest: i128, unit: i128) -> i128
     round_width(LAST_STEP)
 }
 
-// Whether at most 20 bins of this width, which is not below the unit, reach from one number to the other.
+// Whether at most 20 bins of this width have `least` and `greatest` and all between, and the width is
+// not below `unit`.
 fn reaches(least: i128, greatest: i128, unit: i128, width: i128) -> bool
     requires least { unsigned_abs least ≤ 10 ^ 36 }
     requires greatest { unsigned_abs greatest ≤ 10 ^ 36 }
@@ -36,7 +40,7 @@ fn reaches(least: i128, greatest: i128, unit: i128, width: i128) -> bool
     unit <= width && bins_needed(least, greatest, width) <= 20
 }
 
-// The width of this step: 1, 2, 5, 10, 20, 50 and so on.
+// The width of this step, from 0: 1, 2, 5, 10, 20, 50 and so on.
 fn round_width(step: u32) -> i128
     requires { step ≤ 108 }
     ensures is { result ≡ round_width step }
@@ -46,7 +50,7 @@ fn round_width(step: u32) -> i128
     factor(step % 3) * power_of_ten(step / 3)
 }
 
-// 1, 2 or 5.
+// 1, 2 or 5, for the rests 0, 1 and 2 of a step.
 fn factor(rest: u32) -> i128
     requires { rest < 3 }
     ensures { result ≡ pos (slice_index (1 ∷ 2 ∷ 5 ∷ []) rest) }
@@ -68,7 +72,7 @@ fn power_of_ten(exponent: u32) -> i128
     10i128.pow(exponent)
 }
 
-// How many bins of this width there are from that of the least number to that of the greatest.
+// How many bins of this width there are from that which has `least` to that which has `greatest`.
 pub(crate) fn bins_needed(least: i128, greatest: i128, width: i128) -> i128
     requires least { unsigned_abs least ≤ 10 ^ 36 }
     requires greatest { unsigned_abs greatest ≤ 10 ^ 36 }
@@ -78,7 +82,7 @@ pub(crate) fn bins_needed(least: i128, greatest: i128, width: i128) -> i128
     from_to(rounded_down(least, width), rounded_down(greatest, width))
 }
 
-// How many whole numbers there are from one to another.
+// How many whole numbers there are from `first` to `last`, with both.
 fn from_to(first: i128, last: i128) -> i128
     requires first { unsigned_abs first ≤ 10 ^ 36 }
     requires last { unsigned_abs last ≤ 10 ^ 36 }

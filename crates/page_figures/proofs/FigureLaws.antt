@@ -4,14 +4,13 @@ use Rattle.std.proofs.lemmas.List.{drop-map, length-map, take-map}
 use Rattle.page_markup.specs.Drafts.{followed}
 use Rattle.page_markup.specs.Trees.Content.{Element, Nothing, Words}
 use Rattle.page_markup.specs.declared.tag.Tag.TheVariants as tag
-use Rattle.page_figures.specs.Drawings.{BarParts, parts_of}
+use Rattle.page_figures.specs.Drawings.{BarParts, FigureParts, parts_of}
 use Rattle.page_figures.specs.Figures.{note, picture_content, shown_content, summed_content}
 use Rattle.page_figures.specs.declared.figure.Bar.{Bar}
-use Rattle.page_figures.specs.declared.figure.Figure.{Figure}
 use Rattle.page_figures.specs.declared.figure.Form.{Form}
 
 -- there are no bars
-pub picture-none : (form : Form) (figure : Figure) (series : List (List ℕ)) (bars : List Bar) → length bars ≡ 0
+pub picture-none : (form : Form) (figure : FigureParts) (series : List (List ℕ)) (bars : List Bar) → length bars ≡ 0
     → Element tag.Paragraph [] (Words (codes "nothing to show") Nothing) Nothing ≡ picture_content form figure series (map parts_of bars)
 picture-none form figure series [] e = refl
 picture-none form figure series (bar ∷ bars) e = absurd (none e)
@@ -20,7 +19,7 @@ picture-none form figure series (bar ∷ bars) e = absurd (none e)
     none h = grind arith
 
 -- there are more bars than a picture has
-pub shown-summed : (form : Form) (figure : Figure) (bars front back : List Bar)
+pub shown-summed : (form : Form) (figure : FigureParts) (bars front back : List Bar)
     → 64 < length bars → front ≡ take 63 bars → back ≡ drop 63 bars
     → followed (Element tag.Paragraph [] (Words note Nothing) Nothing) (summed_content form figure (map parts_of front) (map parts_of back))
     ≡ shown_content form figure (map parts_of bars)

@@ -30,16 +30,27 @@ most_parts bars = greatest_of (map (λ (bar : BarParts). length bar.parts) bars)
 abbrev pub longest_label : List BarParts → ℕ
 longest_label bars = greatest_of (map (λ (bar : BarParts). length bar.label) bars)
 
+-- what a figure is called: its number, its title, what it shows, and what a bar of it stands for
+pub record FigureParts : Type 0 where
+  pub id : ℕ
+  pub title : List ℕ
+  pub description : List ℕ
+  pub subject : List ℕ
+
+abbrev pub figure_parts : Figure → FigureParts
+figure_parts figure =
+    record { id = figure.id; title = figure.title.now; description = figure.description.now; subject = figure.subject.now }
+
 -- ---- what every drawing has
 
 -- a drawing that is named and described by what stands in it
 abbrev pub drawing_attributes : ℕ → List ℕ → Attributes
 drawing_attributes id view = image (codes "title-" ++ (decimal id ++ (codes " description-" ++ decimal id))) view
 
-abbrev pub names_content : Figure → Content → Content
+abbrev pub names_content : FigureParts → Content → Content
 names_content figure rest =
-    Element Title (named (codes "title-" ++ decimal figure.id)) (Words figure.title.now Nothing)
-    (Element Description (named (codes "description-" ++ decimal figure.id)) (Words figure.description.now Nothing) rest)
+    Element Title (named (codes "title-" ++ decimal figure.id)) (Words figure.title Nothing)
+    (Element Description (named (codes "description-" ++ decimal figure.id)) (Words figure.description Nothing) rest)
 
 -- a rectangle in the colour of a series, and a line
 abbrev pub rectangle_content : Colour → ℕ → ℕ → ℕ → ℕ → Content → Content
@@ -107,7 +118,7 @@ bars_below greatest y (bar ∷ bars) = bar_content greatest y bar (bars_below gr
 abbrev pub bars_height : List BarParts → ℕ
 bars_height bars = min (length bars * 26) (2 ^ 64 - 1)
 
-abbrev pub bar_drawing : Figure → ℕ → List BarParts → Content
+abbrev pub bar_drawing : FigureParts → ℕ → List BarParts → Content
 bar_drawing figure greatest bars =
     Element Drawing (drawing_attributes figure.id (codes "0 0 784 " ++ decimal (bars_height bars)))
     (names_content figure
@@ -166,7 +177,7 @@ level_content class number y rest =
     (line_content class 88 y 784 y
     (Element Label (text_at 80 y (codes "end")) (Words (decimal number) Nothing) Nothing)) rest
 
-abbrev pub bin_drawing : Figure → ℕ → List BarParts → Content
+abbrev pub bin_drawing : FigureParts → ℕ → List BarParts → Content
 bin_drawing figure greatest bins =
     Element Drawing (drawing_attributes figure.id (codes "0 0 784 296"))
     (names_content figure

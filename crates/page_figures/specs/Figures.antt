@@ -7,11 +7,10 @@ use Rattle.page_markup.specs.Drafts.{followed}
 use Rattle.page_markup.specs.Trees.{Content}
 use Rattle.page_markup.specs.Trees.Content.{Element, Nothing, Words}
 use Rattle.page_markup.specs.declared.tag.Tag.TheVariants as tag
-use Rattle.page_figures.specs.Drawings.{BarParts, bar_drawing, bin_drawing, legend_content, most_parts}
+use Rattle.page_figures.specs.Drawings.{BarParts, FigureParts, bar_drawing, bin_drawing, legend_content, most_parts}
 use Rattle.page_figures.specs.Sums.{greatest_of, total_of}
 use Rattle.page_figures.specs.Tables.{Entry, table_content}
 use Rattle.page_figures.specs.Tables.Entry.{Number, Text}
-use Rattle.page_figures.specs.declared.figure.Figure.{Figure}
 use Rattle.page_figures.specs.declared.figure.Form.{Form}
 use Rattle.page_figures.specs.declared.figure.Form.TheVariants.{Stacked, Upright}
 
@@ -40,7 +39,7 @@ reach Upright parts = greatest_of parts
 abbrev pub greatest_in : Form → List BarParts → ℕ
 greatest_in form bars = greatest_of (map (λ (bar : BarParts). reach form bar.parts) bars)
 
-abbrev pub drawing_content : Form → Figure → ℕ → List BarParts → Content
+abbrev pub drawing_content : Form → FigureParts → ℕ → List BarParts → Content
 drawing_content Stacked figure greatest bars = bar_drawing figure greatest bars
 drawing_content Upright figure greatest bars = bin_drawing figure greatest bars
 
@@ -49,18 +48,18 @@ unfoldable pub note : List ℕ
 note = codes "The others are summed in one bar, which may not be to scale. The table has them one by one."
 
 -- the drawing of the first bars, which give the scale, and of the sum of the others
-abbrev pub summed_content : Form → Figure → List BarParts → List BarParts → Content
+abbrev pub summed_content : Form → FigureParts → List BarParts → List BarParts → Content
 summed_content form figure first others =
     drawing_content form figure (greatest_in form first) (first ++ others_of others ∷ [])
 
 -- the drawing of at most 64 bars; of more, those from the 64th on are summed in one
-abbrev pub shown_content : Form → Figure → List BarParts → Content
+abbrev pub shown_content : Form → FigureParts → List BarParts → Content
 shown_content form figure bars =
     if nat_le (length bars) 64 then drawing_content form figure (greatest_in form bars) bars
     else Element tag.Paragraph [] (Words note Nothing) (summed_content form figure (take 63 bars) (drop 63 bars))
 
 -- the names of the series and the drawing, or that there are no bars
-abbrev pub picture_content : Form → Figure → List (List ℕ) → List BarParts → Content
+abbrev pub picture_content : Form → FigureParts → List (List ℕ) → List BarParts → Content
 picture_content form figure series bars =
     if length bars == 0 then Element tag.Paragraph [] (Words (codes "nothing to show") Nothing) Nothing
     else followed (legend_content series) (shown_content form figure bars)
@@ -79,14 +78,14 @@ columns_of subject series totals = subject ∷ (series ++ (if totals then codes 
 abbrev pub entries_of : Bool → BarParts → List Entry
 entries_of totals bar = Text bar.label ∷ (map Number bar.parts ++ (if totals then Number (total_of bar.parts) ∷ [] else []))
 
-abbrev pub numbers_content : Form → Figure → List (List ℕ) → List BarParts → Content
+abbrev pub numbers_content : Form → FigureParts → List (List ℕ) → List BarParts → Content
 numbers_content form figure series bars =
-    table_content figure.title.now (columns_of figure.subject.now series (has_totals form (length series)))
+    table_content figure.title (columns_of figure.subject series (has_totals form (length series)))
     (map (entries_of (has_totals form (length series))) bars)
 
 -- a figure: its title, the picture, and the table of all its numbers
-abbrev pub figure_content : Form → Figure → List (List ℕ) → List BarParts → Content
+abbrev pub figure_content : Form → FigureParts → List (List ℕ) → List BarParts → Content
 figure_content form figure series bars =
     Element tag.Figure []
-    (Element tag.FigureCaption [] (Words figure.title.now Nothing)
+    (Element tag.FigureCaption [] (Words figure.title Nothing)
     (followed (picture_content form figure series bars) (numbers_content form figure series bars))) Nothing

@@ -1,9 +1,10 @@
-//! Horizontal bars, one below the other, each of parts that stand side by side.
+//! The drawing of horizontal bars, one below the other, each of parts that stand side by side. In
+//! contracts, `added` says what content is put last in the page's innermost open element.
 ghost use Rattle.std.specs.Prelude.{◌≡◌, [], map, OnOk};
 ghost use Rattle.page_markup.specs.OpenPages.{added};
 ghost use Rattle.page_markup.specs.Trees.Content.{Element, Nothing};
 ghost use Rattle.page_markup.specs.declared.tag.Tag.TheVariants.{Group};
-ghost use Rattle.page_figures.specs.Drawings.{bar_content, bar_drawing, bars_below, parts_content, parts_of};
+ghost use Rattle.page_figures.specs.Drawings.{bar_content, bar_drawing, bars_below, figure_parts, parts_content, parts_of};
 ghost use Rattle.page_figures.specs.declared.colour.Colour.TheVariants.{First};
 
 use crate::colour::Colour;
@@ -16,7 +17,8 @@ use foundation::OutOfMemory;
 use page_markup::{PageWriter, Tag};
 use std::alloc::Global;
 
-// Labels end at 216, bars begin at 224, the longest has 480 units, and totals end at 784. A bar takes 26 units of height.
+// Labels end at 216, bars begin at `START`, the longest has `LONGEST` units, and totals end at 784. A
+// bar takes `PITCH` units of height. Of a label at most `LETTERS` bytes are shown.
 const START: u64 = 224;
 
 const LONGEST: u64 = 480;
@@ -25,7 +27,8 @@ const PITCH: u64 = 26;
 
 const LETTERS: usize = 16;
 
-/// Adds the drawing of the bars, to the scale of the greatest total, or of a bar's own where that is greater.
+/// Adds the drawing of the bars, to the scale of the total `greatest`. A bar of a greater total has a
+/// scale of its own, and is as long as the longest. The sum of others may be such a bar.
 pub(crate) fn push_bar_drawing(
     alloc: Global,
     page: &mut PageWriter,
@@ -33,7 +36,7 @@ pub(crate) fn push_bar_drawing(
     bars: &[Bar],
     greatest: u64,
 ) -> Result<(), OutOfMemory>
-    ensures { OnOk result (page.new ≡ added (bar_drawing figure.now greatest (map parts_of bars.now)) page.old) }
+    ensures { OnOk result (page.new ≡ added (bar_drawing (figure_parts figure.now) greatest (map parts_of bars.now)) page.old) }
 {
     let height = (bars.len() as u64).saturating_mul(PITCH);
     let view = format!(in alloc; "0 0 784 {height}")?;
@@ -43,7 +46,8 @@ pub(crate) fn push_bar_drawing(
     page.close()
 }
 
-// Adds the bars, from above.
+// Adds the bars, from above, each `PITCH` units below the one before, to the scale of the total
+// `greatest`.
 fn push_bars_below(page: &mut PageWriter, bars: &[Bar], greatest: u64) -> Result<(), OutOfMemory>
     ensures { OnOk result (page.new ≡ added
         (Element Group [] (bars_below greatest 0 (map parts_of bars.now)) Nothing) page.old) }
@@ -57,7 +61,8 @@ fn push_bars_below(page: &mut PageWriter, bars: &[Bar], greatest: u64) -> Result
     page.close()
 }
 
-// Adds a bar with its label and its total. A mouse that rests on it shows the whole label.
+// Adds a bar with its label and its total, to the scale of the total `greatest`; `y` is where it begins
+// above. A mouse that rests on it shows the whole label.
 fn push_bar(page: &mut PageWriter, bar: Bar, greatest: u64, y: u64) -> Result<(), OutOfMemory>
     ensures { OnOk result (page.new ≡ added (bar_content greatest y (parts_of bar.entry) Nothing) page.old) }
 {
@@ -71,7 +76,8 @@ fn push_bar(page: &mut PageWriter, bar: Bar, greatest: u64, y: u64) -> Result<()
     page.close()
 }
 
-// Adds the parts of a bar, from the left.
+// Adds the parts of a bar, from the left, each in the next colour. `greatest` is the number for which a
+// bar has `LONGEST` units, and `y` is where the bar begins above.
 fn push_parts(
     page: &mut PageWriter,
     parts: &[u64],

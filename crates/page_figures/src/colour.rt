@@ -24,7 +24,7 @@ impl Colour {
         }
     }
 
-    /// Its class in the style sheet. No memory.
+    /// The name of its class in the style sheet. No memory.
     #[tactic(auto, unfolding(crate::specs::Colours::colour_class))]
     pub(crate) fn class(self) -> &'static [u8]
         ensures { result.now ≡ colour_class self }

@@ -1,10 +1,11 @@
-//! What every drawing has: a name, a description, rectangles and lines.
+//! What every drawing has: a name, a description, rectangles and lines. In contracts, `added` says what
+//! content is put last in the page's innermost open element. `opened` says which element is open then.
 ghost use Rattle.std.specs.Prelude.{◌≡◌, OnOk};
 ghost use Rattle.page_markup.specs.OpenPages.{added, opened};
 ghost use Rattle.page_markup.specs.Trees.Content.{Element, Nothing, Words};
 ghost use Rattle.page_markup.specs.declared.tag.Tag.TheVariants.{Drawing};
 ghost use Rattle.page_figures.specs.Attributes.{image, named};
-ghost use Rattle.page_figures.specs.Drawings.{drawing_attributes, line_content, names_content, rectangle_content};
+ghost use Rattle.page_figures.specs.Drawings.{drawing_attributes, figure_parts, line_content, names_content, rectangle_content};
 
 use crate::colour::Colour;
 use crate::elements::push_words;
@@ -13,14 +14,16 @@ use foundation::OutOfMemory;
 use page_markup::{Attribute, PageWriter, Tag, Value, VoidTag};
 use std::alloc::Global;
 
-/// Opens a drawing that shows these coordinates, and adds its title and its description, by which a screen reader names it.
+/// Opens a drawing of these coordinates, which the caller closes. `view` has its left and upper end, its
+/// width and its height. The drawing's title and description are added, by which a screen reader names
+/// it.
 pub(crate) fn open_drawing(
     alloc: Global,
     page: &mut PageWriter,
     figure: &Figure,
     view: &[u8],
 ) -> Result<(), OutOfMemory>
-    ensures { OnOk result (page.new ≡ added (names_content figure.now Nothing)
+    ensures { OnOk result (page.new ≡ added (names_content (figure_parts figure.now) Nothing)
         (opened Drawing (drawing_attributes figure.now.id view.now) page.old)) }
 {
     let id = figure.id;
@@ -37,7 +40,8 @@ pub(crate) fn open_drawing(
     )
 }
 
-// Opens a drawing that other elements name and describe.
+// Opens a drawing that other elements name and describe. `names` has their identifiers, parted by a
+// space.
 #[tactic(auto, unfolding(crate::specs::Attributes::image))]
 fn open_image<'a>(page: &mut PageWriter, names: &'a [u8], view: &'a [u8]) -> Result<(), OutOfMemory>
     ensures { OnOk result (page.new ≡ opened Drawing (image names.now view.now) page.old) }
@@ -52,7 +56,7 @@ fn open_image<'a>(page: &mut PageWriter, names: &'a [u8], view: &'a [u8]) -> Res
     )
 }
 
-// Adds an element of which others speak by its name.
+// Adds an element that holds `words`, with the identifier `name`, by which others speak of it.
 #[tactic(auto, unfolding(crate::specs::Attributes::named))]
 fn push_named(page: &mut PageWriter, tag: Tag, name: &[u8], words: &[u8]) -> Result<(), OutOfMemory>
     ensures { OnOk result (page.new ≡ added (Element tag (named name.now) (Words words.now Nothing) Nothing) page.old) }
@@ -74,7 +78,7 @@ pub(crate) struct Place {
     pub height: u64,
 }
 
-/// Adds a rectangle in a colour.
+/// Adds a rectangle in a colour at the place `place`.
 #[tactic(auto, unfolding(crate::specs::Attributes::rectangle_at))]
 pub(crate) fn push_rectangle(
     page: &mut PageWriter,
@@ -96,7 +100,7 @@ pub(crate) fn push_rectangle(
     )
 }
 
-/// Adds a line from a place to another.
+/// Adds a line from `x1` and `y1` to `x2` and `y2`, of a class of the style sheet.
 #[tactic(auto, unfolding(crate::specs::Attributes::line_at))]
 pub(crate) fn push_line(
     page: &mut PageWriter,

@@ -1,4 +1,5 @@
-//! Elements by their class, and elements that hold words alone.
+//! Elements by their class, and elements that hold words alone. In contracts, `added` says what content
+//! is put last in the page's innermost open element. `opened` says which element is open then.
 ghost use Rattle.std.specs.Prelude.{◌≡◌, OnOk};
 ghost use Rattle.std.specs.Fmt.{decimal};
 ghost use Rattle.page_markup.specs.OpenPages.{added, given, opened};
@@ -8,7 +9,7 @@ ghost use Rattle.page_figures.specs.Attributes.{classed};
 use foundation::OutOfMemory;
 use page_markup::{Attribute, PageWriter, Tag, Value};
 
-/// Opens an element of a class.
+/// Opens an element of a class of the style sheet, which the caller closes.
 #[tactic(auto, unfolding(crate::specs::Attributes::classed))]
 pub(crate) fn open_classed(page: &mut PageWriter, tag: Tag, class: &[u8]) -> Result<(), OutOfMemory>
     ensures { OnOk result (page.new ≡ opened tag (classed class.now) page.old) }
@@ -16,8 +17,8 @@ pub(crate) fn open_classed(page: &mut PageWriter, tag: Tag, class: &[u8]) -> Res
     page.open(tag, &[(Attribute::Class, Value::Words(class))])
 }
 
-/// Adds an element that holds these words.
-pub(crate) fn push_words(
+/// Adds an element that holds these words. Where memory runs out, a part of it may be in the page.
+pub fn push_words(
     page: &mut PageWriter,
     tag: Tag,
     attributes: &[(Attribute, Value)],
@@ -31,7 +32,7 @@ pub(crate) fn push_words(
     page.close()
 }
 
-/// Adds an element that holds a number.
+/// Adds an element that holds a number. Where memory runs out, a part of it may be in the page.
 pub(crate) fn push_number(
     page: &mut PageWriter,
     tag: Tag,

@@ -1,7 +1,9 @@
-//! Pictures with the tables of their numbers.
+//! Pictures with the tables of their numbers. In contracts, `added` says what content is put last in the
+//! page's innermost open element. `figure_parts` and `parts_of` are what definitions see of a figure and
+//! of a bar.
 ghost use Rattle.std.specs.Prelude.{◌≡◌, IfOk, map, OnOk};
 ghost use Rattle.page_markup.specs.OpenPages.{added};
-ghost use Rattle.page_figures.specs.Drawings.{parts_of};
+ghost use Rattle.page_figures.specs.Drawings.{figure_parts, parts_of};
 ghost use Rattle.page_figures.specs.Figures.{columns_of, drawing_content, entries_of, figure_content, has_totals};
 ghost use Rattle.page_figures.specs.Figures.{numbers_content, picture_content, shown_content, summed_content};
 ghost use Rattle.page_figures.specs.Tables.{entry_of};
@@ -49,16 +51,17 @@ pub enum Form {
     Upright,
 }
 
-// A picture has at most so many bars.
+// The most bars that a picture has.
 const MOST: usize = 64;
 
 // What is said where bars are summed.
 const NOTE: &[u8] =
     b"The others are summed in one bar, which may not be to scale. The table has them one by one.";
 
-/// Adds a picture of bars that lie one below the other, each of parts of several series, and the table of their numbers with the
-/// total of each bar. Where there are more than 64 bars, those from the 64th on are summed in one; the table has them all. Where memory
-/// runs out, a part of it may be in the page.
+/// Adds a picture of bars that lie one below the other, each with a part for each of the `series`. The
+/// table of their numbers follows, with the total of each bar. Where there are more than 64 bars, those
+/// from the 64th on are summed in one; the table has them all. Where memory runs out, a part of it may
+/// be in the page.
 pub fn push_bars(
     alloc: Global,
     page: &mut PageWriter,
@@ -67,13 +70,14 @@ pub fn push_bars(
     bars: &[Bar],
 ) -> Result<(), OutOfMemory>
     ensures { OnOk result (page.new ≡ added
-        (figure_content form.Stacked figure.now (map (λ s. s.now) series.now) (map parts_of bars.now)) page.old) }
+        (figure_content form.Stacked (figure_parts figure.now) (map (λ s. s.now) series.now) (map parts_of bars.now)) page.old) }
 {
     push_figure(alloc, page, Form::Stacked, figure, series, bars)
 }
 
-/// Adds a histogram, with an upright bar for each series in each bin, and the table of their numbers. Where there are more than 64
-/// bins, those from the 64th on are summed in one; the table has them all. Where memory runs out, a part of it may be in the page.
+/// Adds a histogram, with an upright bar for each of the `series` in each bin, and the table of their
+/// numbers. Where there are more than 64 bins, those from the 64th on are summed in one; the table has
+/// them all. Where memory runs out, a part of it may be in the page.
 pub fn push_histogram(
     alloc: Global,
     page: &mut PageWriter,
@@ -82,12 +86,12 @@ pub fn push_histogram(
     bins: &[Bar],
 ) -> Result<(), OutOfMemory>
     ensures { OnOk result (page.new ≡ added
-        (figure_content form.Upright figure.now (map (λ s. s.now) series.now) (map parts_of bins.now)) page.old) }
+        (figure_content form.Upright (figure_parts figure.now) (map (λ s. s.now) series.now) (map parts_of bins.now)) page.old) }
 {
     push_figure(alloc, page, Form::Upright, figure, series, bins)
 }
 
-// Adds a picture with its table.
+// Adds a picture of this form with its title and its table. `series` are the names of the series.
 fn push_figure(
     alloc: Global,
     page: &mut PageWriter,
@@ -97,7 +101,7 @@ fn push_figure(
     bars: &[Bar],
 ) -> Result<(), OutOfMemory>
     ensures { OnOk result (page.new ≡ added
-        (figure_content form figure.now (map (λ s. s.now) series.now) (map parts_of bars.now)) page.old) }
+        (figure_content form (figure_parts figure.now) (map (λ s. s.now) series.now) (map parts_of bars.now)) page.old) }
 {
     page.open(Tag::Figure, &[])?;
     push_words(page, Tag::FigureCaption, &[], figure.title)?;
@@ -106,7 +110,7 @@ fn push_figure(
     page.close()
 }
 
-// Adds the picture, or that there is nothing to show.
+// Adds the legend and the drawing, or the words `nothing to show` where there are no bars.
 fn push_picture(
     alloc: Global,
     page: &mut PageWriter,
@@ -116,7 +120,7 @@ fn push_picture(
     bars: &[Bar],
 ) -> Result<(), OutOfMemory>
     ensures { OnOk result (page.new ≡ added
-        (picture_content form figure.now (map (λ s. s.now) series.now) (map parts_of bars.now)) page.old) }
+        (picture_content form (figure_parts figure.now) (map (λ s. s.now) series.now) (map parts_of bars.now)) page.old) }
 {
     if bars.is_empty() {
         return push_words(page, Tag::Paragraph, &[], b"nothing to show");
@@ -125,7 +129,8 @@ fn push_picture(
     push_shown(alloc, page, form, figure, bars)
 }
 
-// Adds the drawing of the bars, of which those that have no place are summed.
+// Adds the drawing of the bars. Where there are more than `MOST`, a note is added first, and those from
+// the 64th on are summed in one.
 fn push_shown(
     alloc: Global,
     page: &mut PageWriter,
@@ -133,7 +138,7 @@ fn push_shown(
     figure: &Figure,
     bars: &[Bar],
 ) -> Result<(), OutOfMemory>
-    ensures { OnOk result (page.new ≡ added (shown_content form figure.now (map parts_of bars.now)) page.old) }
+    ensures { OnOk result (page.new ≡ added (shown_content form (figure_parts figure.now) (map parts_of bars.now)) page.old) }
 {
     if bars.len() <= MOST {
         return push_drawing(alloc, page, form, figure, bars, greatest_in(form, bars));
@@ -143,7 +148,8 @@ fn push_shown(
     push_summed(alloc, page, form, figure, first, rest)
 }
 
-// Adds the drawing of the first bars, which give the scale, and of the sum of the others.
+// Adds the drawing of the bars `first`, which give the scale, and of the sum of the bars `rest`, as one
+// bar more.
 fn push_summed(
     alloc: Global,
     page: &mut PageWriter,
@@ -153,7 +159,7 @@ fn push_summed(
     rest: &[Bar],
 ) -> Result<(), OutOfMemory>
     ensures { OnOk result (page.new ≡ added
-        (summed_content form figure.now (map parts_of first.now) (map parts_of rest.now)) page.old) }
+        (summed_content form (figure_parts figure.now) (map parts_of first.now) (map parts_of rest.now)) page.old) }
 {
     let label = others_label(alloc, rest.len())?;
     let sums = sums_of(alloc, rest)?;
@@ -165,7 +171,7 @@ fn push_summed(
     push_drawing(alloc, page, form, figure, &bars, greatest_in(form, first))
 }
 
-// Adds the drawing of bars.
+// Adds the drawing of bars in this form, to the scale of the number `greatest`.
 fn push_drawing(
     alloc: Global,
     page: &mut PageWriter,
@@ -175,7 +181,7 @@ fn push_drawing(
     greatest: u64,
 ) -> Result<(), OutOfMemory>
     ensures { OnOk result (page.new ≡ added
-        (drawing_content form figure.now greatest (map parts_of bars.now)) page.old) }
+        (drawing_content form (figure_parts figure.now) greatest (map parts_of bars.now)) page.old) }
 {
     match form {
         Form::Stacked => push_bar_drawing(alloc, page, figure, bars, greatest),
@@ -183,7 +189,8 @@ fn push_drawing(
     }
 }
 
-// Adds the table of a picture. Totals stand in it where bars have several parts.
+// Adds the table of a picture, a row for each bar. Totals stand in it where bars have several parts that
+// are drawn as one bar.
 fn push_figure_table(
     alloc: Global,
     page: &mut PageWriter,
@@ -193,7 +200,7 @@ fn push_figure_table(
     bars: &[Bar],
 ) -> Result<(), OutOfMemory>
     ensures { OnOk result (page.new ≡ added
-        (numbers_content form figure.now (map (λ s. s.now) series.now) (map parts_of bars.now)) page.old) }
+        (numbers_content form (figure_parts figure.now) (map (λ s. s.now) series.now) (map parts_of bars.now)) page.old) }
 {
     let totals = has_totals(form, series.len());
     let columns = columns_of(alloc, figure.subject, series, totals)?;
@@ -204,7 +211,7 @@ fn push_figure_table(
     push_table(page, figure.title, &columns, &rows)
 }
 
-// Whether the table of a picture has totals. No memory.
+// Whether the table of a picture has totals, where there are this many `series`. No memory.
 fn has_totals(form: Form, series: usize) -> bool
     ensures { result ≡ has_totals form series }
 {
@@ -214,7 +221,7 @@ fn has_totals(form: Form, series: usize) -> bool
     }
 }
 
-// The names of the columns.
+// The names of the table's columns: the subject, each series, and `total` where the table has totals.
 fn columns_of<'a>(
     alloc: Global,
     subject: &'a [u8],
@@ -232,7 +239,7 @@ fn columns_of<'a>(
     Ok(columns)
 }
 
-// The cells of a bar's row.
+// The cells of a bar's row: its label, its numbers, and their total where the table has totals.
 fn cells_of<'a>(alloc: Global, bar: &Bar<'a>, totals: bool) -> Result<Vec<Cell<'a>>, OutOfMemory>
     ensures { IfOk result (λ cells. map entry_of cells.items ≡ entries_of totals (parts_of bar.now)) }
 {

@@ -1,10 +1,11 @@
-//! Upright bars side by side, over the same bins.
+//! The drawing of upright bars side by side, over the same bins. In contracts, `added` says what content
+//! is put last in the page's innermost open element.
 ghost use Rattle.std.specs.Prelude.{◌≡◌, [], map, OnOk};
 ghost use Rattle.page_markup.specs.OpenPages.{added};
 ghost use Rattle.page_markup.specs.Trees.Content.{Element, Nothing};
 ghost use Rattle.page_markup.specs.declared.tag.Tag.TheVariants.{Group};
-ghost use Rattle.page_figures.specs.Drawings.{bin_content, bin_drawing, bins_content, layout_of, level_content, next_wait};
-ghost use Rattle.page_figures.specs.Drawings.{parts_of, tick_content, uprights};
+ghost use Rattle.page_figures.specs.Drawings.{bin_content, bin_drawing, bins_content, figure_parts, layout_of, level_content};
+ghost use Rattle.page_figures.specs.Drawings.{next_wait, parts_of, tick_content, uprights};
 ghost use Rattle.page_figures.specs.declared.colour.Colour.TheVariants.{First};
 
 use crate::colour::Colour;
@@ -17,14 +18,16 @@ use foundation::OutOfMemory;
 use page_markup::{PageWriter, Tag};
 use std::alloc::Global;
 
-// Bars stand on 264, and the greatest has 240 units. Bins begin at 88, and take 640 units together. A letter takes 14 units.
+// Bars stand on `GROUND`, and the greatest has `GREATEST` units. Bins begin at 88, and take 640 units
+// together. A letter takes 14 units, and of a label at most `LETTERS` bytes are shown.
 const GROUND: u64 = 264;
 
 const GREATEST: u64 = 240;
 
 const LETTERS: usize = 12;
 
-/// Adds the drawing of the bins.
+/// Adds the drawing of the bins, to the scale of the number `greatest`. It has a line at that number,
+/// the bins, and the line on which they stand.
 pub(crate) fn push_bin_drawing(
     alloc: Global,
     page: &mut PageWriter,
@@ -32,7 +35,7 @@ pub(crate) fn push_bin_drawing(
     bins: &[Bar],
     greatest: u64,
 ) -> Result<(), OutOfMemory>
-    ensures { OnOk result (page.new ≡ added (bin_drawing figure.now greatest (map parts_of bins.now)) page.old) }
+    ensures { OnOk result (page.new ≡ added (bin_drawing (figure_parts figure.now) greatest (map parts_of bins.now)) page.old) }
 {
     open_drawing(alloc, page, figure, b"0 0 784 296")?;
     push_level(page, b"grid", greatest, GROUND - GREATEST)?;
@@ -41,7 +44,7 @@ pub(crate) fn push_bin_drawing(
     page.close()
 }
 
-// Adds a line for a number, with the number to its left.
+// Adds a line of a class at the height `y`, with the number to its left.
 fn push_level(page: &mut PageWriter, class: &[u8], number: u64, y: u64) -> Result<(), OutOfMemory>
     ensures { OnOk result (page.new ≡ added (level_content class.now number y Nothing) page.old) }
 {
@@ -58,16 +61,18 @@ pub(crate) struct Layout {
     pub greatest: u64,
     /// The width of a bin.
     pub pitch: u64,
-    /// The middle of its bars.
+    /// How far from its left end the middle of its bars is.
     pub middle: u64,
     /// The width of a bar.
     pub width: u64,
-    /// How many bins a label takes.
+    /// How many bins a label takes: the first of these has it, and the others have none.
     pub step: u64,
 }
 
 impl Layout {
-    // The layout of these bins. No memory.
+    // The layout of these bins. A bin has its share of 640 units, but from 1 to 80, and its bars have
+    // four fifths of that. A label takes so many bins that at least 9 units are free behind it. No
+    // memory.
     fn of(bins: &[Bar], greatest: u64) -> Layout
         ensures { result ≡ layout_of greatest (map parts_of bins.now) }
     {
@@ -83,7 +88,7 @@ impl Layout {
     }
 }
 
-// Adds the bins, from the left.
+// Adds the bins, from the left; the first one has a label.
 fn push_bins(page: &mut PageWriter, bins: &[Bar], layout: Layout) -> Result<(), OutOfMemory>
     ensures { OnOk result (page.new ≡ added
         (Element Group [] (bins_content layout 88 0 (map parts_of bins.now)) Nothing) page.old) }
@@ -99,7 +104,8 @@ fn push_bins(page: &mut PageWriter, bins: &[Bar], layout: Layout) -> Result<(), 
     page.close()
 }
 
-// How many bins come before the next that has a label, one bin on. No memory.
+// How many bins come before the next that has a label, where it was `wait` at the bin before. Behind a
+// bin with a label it is `step - 1`. No memory.
 fn next_wait(wait: u64, step: u64) -> u64
     ensures { result ≡ next_wait step wait }
 {
@@ -110,7 +116,8 @@ fn next_wait(wait: u64, step: u64) -> u64
     }
 }
 
-// Adds a bin with its label. A mouse that rests on it shows the whole label.
+// Adds a bin whose left end is at `x`, with its label where `wait` is 0. A mouse that rests on it shows
+// the whole label.
 fn push_bin(
     page: &mut PageWriter,
     bin: Bar,
@@ -127,7 +134,7 @@ fn push_bin(
     page.close()
 }
 
-// Adds the label of a bin, where none is to wait for.
+// Adds the label of a bin, with its middle at `x`, where `wait` is 0, and else nothing.
 fn push_tick(page: &mut PageWriter, label: &[u8], x: u64, wait: u64) -> Result<(), OutOfMemory>
     ensures { OnOk result (page.new ≡ added (tick_content label.now x wait) page.old) }
 {
@@ -137,7 +144,7 @@ fn push_tick(page: &mut PageWriter, label: &[u8], x: u64, wait: u64) -> Result<(
     }
 }
 
-// Adds the bars of a bin, from the left.
+// Adds the bars of a bin, from the left end `start` on, each in the next colour.
 fn push_uprights(
     page: &mut PageWriter,
     parts: &[u64],

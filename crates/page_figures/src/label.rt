@@ -1,4 +1,5 @@
-//! Texts of a picture: numbers, and labels that may be too long for it.
+//! Texts of a picture: numbers, and labels that may be too long for it. In contracts, `added` says what
+//! content is put last in the page's innermost open element.
 ghost use Rattle.std.specs.Prelude.{◌≡◌, ◌<◌, ◌≤◌, [], ◌∷◌, codes, length, OnOk, take};
 ghost use Rattle.std.specs.Fmt.{decimal};
 ghost use Rattle.page_markup.specs.OpenPages.{added, opened};
@@ -14,7 +15,7 @@ use page_markup::{Attribute, PageWriter, Tag, Value};
 // What stands for the rest of a label: U+2026.
 const ELLIPSIS: &[u8] = &[0xE2, 0x80, 0xA6];
 
-/// Adds a number that ends at a place.
+/// Adds a number that ends at `x`, on the line `y`.
 #[tactic(auto, unfolding(crate::specs::Attributes::text_at))]
 pub(crate) fn push_number_at(
     page: &mut PageWriter,
@@ -37,7 +38,8 @@ pub(crate) fn push_number_at(
     )
 }
 
-/// Adds a label that ends or has its middle at a place. A label of more than `most` bytes is cut.
+/// Adds a label, which is cut where it has more than `most` bytes. `anchor` says which part of it is at
+/// `x`, on the line `y`: its `end` or its `middle`.
 pub(crate) fn push_label(
     page: &mut PageWriter,
     x: u64,
@@ -54,7 +56,7 @@ pub(crate) fn push_label(
     page.close()
 }
 
-// Opens a text that ends or has its middle at a place.
+// Opens a text on the line `y` whose end or middle, as `anchor` says, is at `x`.
 #[tactic(auto, unfolding(crate::specs::Attributes::text_at))]
 fn open_label(page: &mut PageWriter, x: u64, y: u64, anchor: &[u8]) -> Result<(), OutOfMemory>
     ensures { OnOk result (page.new ≡ opened Label (text_at x y anchor.now) page.old) }
@@ -69,7 +71,7 @@ fn open_label(page: &mut PageWriter, x: u64, y: u64, anchor: &[u8]) -> Result<()
     )
 }
 
-// Adds a label, or its start.
+// Adds a label, or where it has more than `most` bytes, its start and an ellipsis.
 fn push_shortened(page: &mut PageWriter, label: &[u8], most: usize) -> Result<(), OutOfMemory>
     ensures { OnOk result (page.new ≡ added (shortened most label.now) page.old) }
 {
@@ -80,7 +82,7 @@ fn push_shortened(page: &mut PageWriter, label: &[u8], most: usize) -> Result<()
     }
 }
 
-// Adds the start of a label, and an ellipsis.
+// Adds the start of a label, at most `end` bytes and no cut character, and an ellipsis.
 fn push_start(page: &mut PageWriter, label: &[u8], end: usize) -> Result<(), OutOfMemory>
     requires { end < length label.now }
     ensures { OnOk result (page.new ≡ added
@@ -90,7 +92,8 @@ fn push_start(page: &mut PageWriter, label: &[u8], end: usize) -> Result<(), Out
     page.text(ELLIPSIS)
 }
 
-// The greatest place up to `end` at which no byte goes on with a character of UTF-8. No memory.
+// The greatest place up to `end` at which no byte goes on with a character of UTF-8, or 0. So a label
+// that is cut there has whole characters. No memory.
 #[tactic(auto, using(crate::proofs::PageLaws::boundaries))]
 fn boundary(label: &[u8], end: usize) -> usize
     requires { end < length label.now }

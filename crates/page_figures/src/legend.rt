@@ -1,4 +1,5 @@
-//! The names of the series, each with its colour.
+//! The names of the series, each with its colour. In contracts, `added` says what content is put last in
+//! the page's innermost open element.
 ghost use Rattle.std.specs.Prelude.{◌≡◌, map, OnOk};
 ghost use Rattle.page_markup.specs.OpenPages.{added, opened};
 ghost use Rattle.page_markup.specs.Trees.Content.{Nothing};
@@ -25,7 +26,7 @@ pub(crate) fn push_legend(page: &mut PageWriter, series: &[&[u8]]) -> Result<(),
     page.close()
 }
 
-// Adds the name of a series.
+// Adds the name of a series behind a small square in its colour.
 fn push_key(page: &mut PageWriter, colour: Colour, name: &[u8]) -> Result<(), OutOfMemory>
     ensures { OnOk result (page.new ≡ added (key_content colour name.now Nothing) page.old) }
 {
@@ -35,7 +36,7 @@ fn push_key(page: &mut PageWriter, colour: Colour, name: &[u8]) -> Result<(), Ou
     page.close()
 }
 
-// Adds a small square.
+// Adds a small drawing that is filled by one square of this colour.
 fn push_square(page: &mut PageWriter, colour: Colour) -> Result<(), OutOfMemory>
     ensures { OnOk result (page.new ≡ added (square_content colour Nothing) page.old) }
 {
@@ -50,7 +51,7 @@ fn push_square(page: &mut PageWriter, colour: Colour) -> Result<(), OutOfMemory>
     page.close()
 }
 
-// Opens a small drawing in a line of text.
+// Opens a small drawing, 16 units wide and high, that stands in a line of text.
 #[tactic(auto, unfolding(crate::specs::Attributes::key))]
 fn open_key(page: &mut PageWriter) -> Result<(), OutOfMemory>
     ensures { OnOk result (page.new ≡ opened Drawing key page.old) }

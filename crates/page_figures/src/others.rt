@@ -9,14 +9,14 @@ use crate::scale::most_parts;
 use foundation::OutOfMemory;
 use std::alloc::Global;
 
-/// What the sum of so many bars is called.
+/// What the sum of `count` bars is called, such as `5 others`.
 pub(crate) fn others_label(alloc: Global, count: usize) -> Result<Vec<u8>, OutOfMemory>
     ensures { IfOk result (λ label. label.items ≡ decimal count ++ codes " others") }
 {
     Ok(format!(in alloc; "{count} others")?.into_bytes())
 }
 
-/// The sums of the numbers of these bars, series by series.
+/// The sums of the numbers of these bars, one for each series; a bar that lacks one counts as 0 there.
 pub(crate) fn sums_of(alloc: Global, bars: &[Bar]) -> Result<Vec<u64>, OutOfMemory>
     ensures { IfOk result (λ sums. sums.items ≡ sums_of (map parts_of bars.now)) }
 {
@@ -46,7 +46,7 @@ pub(crate) fn bars_with<'a>(
     Ok(all)
 }
 
-// The sum of the numbers of one series, or the greatest number that can be shown. No memory.
+// The sum of the numbers of the series at `place`, from 0; past 64 bits it is 2^64 - 1. No memory.
 fn sum_at(bars: &[Bar], place: usize) -> u64
     ensures { result ≡ sum_at place (map parts_of bars.now) }
 {
@@ -57,7 +57,7 @@ fn sum_at(bars: &[Bar], place: usize) -> u64
     sum
 }
 
-// The number of one series, 0 where the bar has none. No memory.
+// The bar's number of the series at `place`, from 0, and 0 where the bar has none. No memory.
 fn part_at(bar: &Bar, place: usize) -> u64
     ensures { result ≡ get_or bar.now.parts.now place 0 }
 {

@@ -6,8 +6,8 @@ ghost use Rattle.page_figures.specs.Sums.{greatest_of, scaled, total_of};
 
 use crate::figure::{Bar, Form};
 
-/// The units that stand for a value in a picture where `most` units stand for the greatest: none for 0, and at least one for a
-/// value above it. No memory.
+/// The units that stand for a value where `most` units stand for `greatest`: value * most / greatest,
+/// rounded down. It is at most `most`, 0 for 0, and at least 1 for a value above it. No memory.
 pub(crate) fn scaled(value: u64, greatest: u64, most: u64) -> u64
     ensures { result ≡ scaled most greatest value }
 {
@@ -21,7 +21,7 @@ pub(crate) fn scaled(value: u64, greatest: u64, most: u64) -> u64
     }
 }
 
-/// The sum of the numbers, or the greatest number that can be shown. No memory.
+/// The sum of the numbers; past 64 bits it is 2^64 - 1. No memory.
 pub(crate) fn total_of(parts: &[u64]) -> u64
     ensures { result ≡ total_of parts.now }
 {
@@ -32,7 +32,8 @@ pub(crate) fn total_of(parts: &[u64]) -> u64
     total
 }
 
-/// The number to whose scale bars are drawn: the greatest of their totals, or of their single numbers. No memory.
+/// The number to whose scale bars are drawn: the greatest of their totals where they are stacked, and
+/// else of their single numbers. It is 0 where there are no bars. No memory.
 pub(crate) fn greatest_in(form: Form, bars: &[Bar]) -> u64
     ensures { result ≡ greatest_in form (map parts_of bars.now) }
 {
@@ -43,7 +44,7 @@ pub(crate) fn greatest_in(form: Form, bars: &[Bar]) -> u64
     greatest
 }
 
-// How far a bar reaches. No memory.
+// How far a bar of this form reaches: to the sum of its parts, or to the greatest of them. No memory.
 fn reach(form: Form, parts: &[u64]) -> u64
     ensures { result ≡ reach form parts.now }
 {
@@ -53,7 +54,7 @@ fn reach(form: Form, parts: &[u64]) -> u64
     }
 }
 
-// The greatest of the numbers. No memory.
+// The greatest of the numbers, and 0 where there are none. No memory.
 fn greatest_of(parts: &[u64]) -> u64
     ensures { result ≡ greatest_of parts.now }
 {
@@ -64,7 +65,7 @@ fn greatest_of(parts: &[u64]) -> u64
     greatest
 }
 
-/// How many bytes the longest label has. No memory.
+/// How many bytes the longest label has, and 0 where there are no bars. No memory.
 pub(crate) fn longest_label(bars: &[Bar]) -> usize
     ensures { result ≡ longest_label (map parts_of bars.now) }
 {
@@ -75,7 +76,7 @@ pub(crate) fn longest_label(bars: &[Bar]) -> usize
     longest
 }
 
-/// How many numbers the bar with the most of them has. No memory.
+/// How many numbers the bar with the most of them has, and 0 where there are no bars. No memory.
 pub(crate) fn most_parts(bars: &[Bar]) -> usize
     ensures { result ≡ most_parts (map parts_of bars.now) }
 {

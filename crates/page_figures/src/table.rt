@@ -1,4 +1,5 @@
-//! Tables of numbers and texts.
+//! Tables of numbers and texts. In contracts, `added` says what content is put last in the page's
+//! innermost open element. `entry_of` is what definitions see of a cell.
 ghost use Rattle.std.specs.Prelude.{◌≡◌, [], map, OnOk};
 ghost use Rattle.page_markup.specs.OpenPages.{added};
 ghost use Rattle.page_markup.specs.Trees.Content.{Element, Nothing};
@@ -25,8 +26,8 @@ const HEAD: &[(Attribute, Value)] = &[(Attribute::Scope, Value::Words(b"row"))];
 
 const NUMBER: &[(Attribute, Value)] = &[(Attribute::Class, Value::Words(b"number"))];
 
-/// Adds a table: its caption, its columns' names, and its rows. The first cell of a row is its head. Where memory runs
-/// out, a part of it may be in the page.
+/// Adds a table in a box that scrolls: its caption, its columns' names, and its rows. The first cell of
+/// a row is its head. Where memory runs out, a part of it may be in the page.
 pub fn push_table(
     page: &mut PageWriter,
     caption: &[u8],
@@ -41,7 +42,7 @@ pub fn push_table(
     page.close()
 }
 
-// Adds a table, which is to stand in a box.
+// Adds the table itself, which stands in the box.
 fn push_grid(
     page: &mut PageWriter,
     caption: &[u8],
@@ -58,7 +59,7 @@ fn push_grid(
     page.close()
 }
 
-// Adds the head of a table.
+// Adds the head of a table: the one row that names the columns.
 fn push_columns(page: &mut PageWriter, columns: &[&[u8]]) -> Result<(), OutOfMemory>
     ensures { OnOk result (page.new ≡ added
         (Element TableHead [] (names_row (map (λ c. c.now) columns.now)) Nothing) page.old) }
@@ -79,7 +80,7 @@ fn push_names(page: &mut PageWriter, columns: &[&[u8]]) -> Result<(), OutOfMemor
     page.close()
 }
 
-// Adds the body of a table.
+// Adds the body of a table: a row for each of `rows`, which has its cells.
 fn push_rows(page: &mut PageWriter, rows: &[Vec<Cell>]) -> Result<(), OutOfMemory>
     ensures { OnOk result (page.new ≡ added
         (Element TableBody [] (rows_content (map (λ r. map entry_of r.items) rows.now)) Nothing) page.old) }
@@ -93,7 +94,7 @@ fn push_rows(page: &mut PageWriter, rows: &[Vec<Cell>]) -> Result<(), OutOfMemor
     page.close()
 }
 
-// Adds the cells of a row.
+// Adds the cells of a row, of which the first is its head. A row of no cells is left empty.
 fn push_cells(page: &mut PageWriter, cells: &[Cell]) -> Result<(), OutOfMemory>
     ensures { OnOk result (page.new ≡ added (row_content (map entry_of cells.now)) page.old) }
 {
@@ -107,7 +108,7 @@ fn push_cells(page: &mut PageWriter, cells: &[Cell]) -> Result<(), OutOfMemory>
     Ok(())
 }
 
-// Adds the first cell of a row.
+// Adds the first cell of a row, as the head of that row.
 fn push_head(page: &mut PageWriter, cell: Cell) -> Result<(), OutOfMemory>
     ensures { OnOk result (page.new ≡ added (head_content (entry_of cell.entry) Nothing) page.old) }
 {
@@ -117,7 +118,7 @@ fn push_head(page: &mut PageWriter, cell: Cell) -> Result<(), OutOfMemory>
     }
 }
 
-// Adds a cell behind the first.
+// Adds a cell behind the first; a number stands at the right.
 fn push_cell(page: &mut PageWriter, cell: Cell) -> Result<(), OutOfMemory>
     ensures { OnOk result (page.new ≡ added (cell_content (entry_of cell.entry) Nothing) page.old) }
 {

@@ -15,16 +15,20 @@ const BARS: &[u8] = b"<!DOCTYPE html>
 <svg role=\"img\" aria-labelledby=\"title-7 description-7\" viewBox=\"0 0 784 52\">\
 <title id=\"title-7\">Values</title><desc id=\"description-7\">by field</desc><g>\
 <g><title>turnover of the year</title><text x=\"216\" y=\"18\" text-anchor=\"end\">turnover of the\xE2\x80\xA6</text>\
-<g><rect class=\"first\" x=\"224\" y=\"4\" width=\"360\" height=\"18\" /><rect class=\"second\" x=\"584\" y=\"4\" width=\"120\" height=\"18\" /></g>\
+<g><rect class=\"first\" x=\"224\" y=\"4\" width=\"360\" height=\"18\" />\
+<rect class=\"second\" x=\"584\" y=\"4\" width=\"120\" height=\"18\" /></g>\
 <text x=\"784\" y=\"18\" text-anchor=\"end\">4</text></g>\
 <g><title>wages</title><text x=\"216\" y=\"44\" text-anchor=\"end\">wages</text>\
-<g><rect class=\"first\" x=\"224\" y=\"30\" width=\"0\" height=\"18\" /><rect class=\"second\" x=\"224\" y=\"30\" width=\"240\" height=\"18\" /></g>\
+<g><rect class=\"first\" x=\"224\" y=\"30\" width=\"0\" height=\"18\" />\
+<rect class=\"second\" x=\"224\" y=\"30\" width=\"240\" height=\"18\" /></g>\
 <text x=\"784\" y=\"44\" text-anchor=\"end\">2</text></g></g>\
 <line class=\"axis\" x1=\"224\" y1=\"0\" x2=\"224\" y2=\"52\" /></svg>\
 <div class=\"table\"><table><caption>Values</caption><thead><tr><th scope=\"col\">field</th><th scope=\"col\">changed</th>\
 <th scope=\"col\">filled</th><th scope=\"col\">total</th></tr></thead>\
-<tbody><tr><th scope=\"row\">turnover of the year</th><td class=\"number\">3</td><td class=\"number\">1</td><td class=\"number\">4</td></tr>\
-<tr><th scope=\"row\">wages</th><td class=\"number\">0</td><td class=\"number\">2</td><td class=\"number\">2</td></tr></tbody></table></div></figure>
+<tbody><tr><th scope=\"row\">turnover of the year</th>\
+<td class=\"number\">3</td><td class=\"number\">1</td><td class=\"number\">4</td></tr>\
+<tr><th scope=\"row\">wages</th><td class=\"number\">0</td>\
+<td class=\"number\">2</td><td class=\"number\">2</td></tr></tbody></table></div></figure>
 </html>
 ";
 

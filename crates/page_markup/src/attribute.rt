@@ -1,8 +1,9 @@
-//! The attributes of elements.
+//! The attributes of elements, and their names and values.
 ghost use Rattle.std.specs.Prelude.{◌≡◌};
 ghost use Rattle.page_markup.specs.Names.{attribute_name};
 
-/// The name of an attribute. None of them makes a browser fetch or run anything; colours are the style sheet's, by `Class`.
+/// The name of an attribute. None of them makes a browser fetch or run anything; colours are the style
+/// sheet's, by `Class`.
 #[derive(Clone, Copy, Debug, PartialEq, Eq)]
 pub enum Attribute {
     /// `lang`
@@ -50,7 +51,7 @@ pub enum Attribute {
 }
 
 impl Attribute {
-    /// The name in a page. No memory.
+    /// The name of the attribute in a page. No memory.
     #[tactic(auto, unfolding(crate::specs::Names::attribute_name))]
     pub fn name(self) -> &'static [u8]
         ensures { result.now ≡ attribute_name self }

@@ -1,4 +1,5 @@
-//! Texts that stand in a page as they are read, whatever their bytes are.
+//! Texts that stand in a page as they are read, whatever their bytes are. Bytes with a meaning in markup
+//! are escaped, and those that can't be shown are replaced.
 ghost use Rattle.std.specs.Prelude.{◌≡◌, [], ◌∷◌, ◌++◌, OnOk, if◌then◌else◌};
 ghost use Rattle.std.specs.Str.{is_utf8};
 ghost use Rattle.page_markup.specs.Escapes.{escaped, escaped_byte, is_lost};
@@ -8,7 +9,8 @@ use foundation::OutOfMemory;
 /// U+FFFD, the character that stands for what can't be shown.
 const REPLACEMENT: &[u8] = &[0xEF, 0xBF, 0xBD];
 
-/// Appends a text as it is written in a page.
+/// Appends a text as it is written in a page. U+FFFD stands for each byte past ASCII of a text that is
+/// not UTF-8, and for each control character but tab and line feed.
 #[tactic(auto, unfolding(crate::specs::Escapes::escaped))]
 pub(crate) fn push_escaped(text: &mut Vec<u8>, words: &[u8]) -> Result<(), OutOfMemory>
     ensures { OnOk result (text.new.items ≡ text.old.items ++ escaped words.now) }
@@ -20,7 +22,7 @@ pub(crate) fn push_escaped(text: &mut Vec<u8>, words: &[u8]) -> Result<(), OutOf
     Ok(())
 }
 
-// Appends a byte of a text as it is written in a page, of a text that is UTF-8 or not.
+// Appends a byte of a text as it is written in a page. `readable` says whether the text is UTF-8.
 fn push_byte(text: &mut Vec<u8>, readable: bool, byte: u8) -> Result<(), OutOfMemory>
     ensures { OnOk result (text.new.items ≡ text.old.items ++ escaped_byte readable byte) }
 {
@@ -35,7 +37,8 @@ fn push_byte(text: &mut Vec<u8>, readable: bool, byte: u8) -> Result<(), OutOfMe
     Ok(())
 }
 
-// Appends a byte that means nothing in markup, or the replacement for it.
+// Appends a byte that means nothing in markup, or U+FFFD where it can't be shown. `readable` says whether
+// the text is UTF-8.
 fn push_plain(text: &mut Vec<u8>, readable: bool, byte: u8) -> Result<(), OutOfMemory>
     ensures { OnOk result (text.new.items ≡ text.old.items ++ (if is_lost readable byte then 239 ∷ 191 ∷ 189 ∷ [] else byte ∷ [])) }
 {
@@ -47,7 +50,8 @@ fn push_plain(text: &mut Vec<u8>, readable: bool, byte: u8) -> Result<(), OutOfM
     Ok(())
 }
 
-// Whether a byte is replaced, in a text that is UTF-8 or not. No memory.
+// Whether a byte can't be shown, and is replaced. That is a control character but tab and line feed, and
+// a byte past ASCII of a text that is not UTF-8. `readable` says whether it is. No memory.
 fn is_lost(readable: bool, byte: u8) -> bool
     ensures { result ≡ is_lost readable byte }
 {

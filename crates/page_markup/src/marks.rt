@@ -1,4 +1,6 @@
-//! What is written of an element: its start and its end.
+//! What is written of an element: its start, its attributes and its end. Each call appends to the page's
+//! text. In contracts, `given` has the attributes of a call, each with the bytes of its value
+//! (`value_words`).
 ghost use Rattle.std.specs.Prelude.{◌≡◌, ◌++◌, OnOk};
 ghost use Rattle.std.specs.List.{flat_map};
 ghost use Rattle.page_markup.specs.Escapes.{escaped};
@@ -11,7 +13,8 @@ use crate::tag::{Tag, VoidTag};
 use foundation::OutOfMemory;
 use itoa::Buffer;
 
-/// Appends the start of an element.
+/// Appends the start of an element that may hold others, with its attributes, such as
+/// `<p class="note">`.
 pub(crate) fn push_start(
     text: &mut Vec<u8>,
     tag: Tag,
@@ -26,7 +29,7 @@ pub(crate) fn push_start(
     Ok(())
 }
 
-/// Appends the end of an element.
+/// Appends the end of an element that may hold others, such as `</p>`.
 pub(crate) fn push_end(text: &mut Vec<u8>, tag: Tag) -> Result<(), OutOfMemory>
     ensures { OnOk result (text.new.items ≡ text.old.items ++ end_text tag) }
 {
@@ -36,7 +39,7 @@ pub(crate) fn push_end(text: &mut Vec<u8>, tag: Tag) -> Result<(), OutOfMemory>
     Ok(())
 }
 
-/// Appends an element that holds nothing.
+/// Appends a whole element that holds nothing, with its attributes, such as `<line x1="0" />`.
 pub(crate) fn push_void(
     text: &mut Vec<u8>,
     tag: VoidTag,
@@ -51,7 +54,8 @@ pub(crate) fn push_void(
     Ok(())
 }
 
-/// Appends an attribute with its value, behind a space.
+/// Appends an attribute with its value in quotation marks, behind a space. No byte of the value ends the
+/// marks.
 pub(crate) fn push_attribute(
     text: &mut Vec<u8>,
     name: Attribute,
@@ -67,7 +71,7 @@ pub(crate) fn push_attribute(
     Ok(())
 }
 
-// Appends the attributes of an element.
+// Appends the attributes of an element, in the order in which they are given.
 fn push_attributes(text: &mut Vec<u8>, attributes: &[(Attribute, Value)]) -> Result<(), OutOfMemory>
     ensures { OnOk result (text.new.items ≡ text.old.items ++ flat_map attribute_text (given attributes.now)) }
 {

@@ -1,4 +1,9 @@
-//! A page that is written element by element.
+//! A page that is written element by element: the writer, and the calls that open, fill and end
+//! elements. A call that writes has a clause for the text (`written`), for the tree that the text is of
+//! (`tree`), and for refused memory (`refused`). In contracts, `Follows` says that the tree is changed
+//! as its first argument does it. By this `with_child` opens an element, `with_more` puts a content
+//! last, and `without_child` ends the innermost element. `opened`, `added` and `closed` say what the
+//! text is then. `Nothing` is what follows the last content.
 ghost use Rattle.std.specs.Prelude.{◌≡◌, ℕ, List, [], IfOk, length, OnErr, OnOk};
 ghost use Rattle.std.specs.Fmt.{decimal};
 ghost use Rattle.page_markup.specs.Drafts.{Draft, Follows, shown, whole, with_child, with_more, without_child};
@@ -17,10 +22,11 @@ use itoa::Buffer;
 use std::alloc::Global;
 use std::marker::Model;
 
-/// A page that is being written. Contracts see the text so far and which elements are open, the innermost first; the text is
-/// always that of some tree.
+/// A page that is being written. Contracts see the text so far and which elements are open, the
+/// innermost first; the field `tags` has the outermost first. The text is always that of some tree.
 ///
-/// A call that is refused memory leaves the page as before. Each call writes into `mark` first, so that it can be.
+/// A call that is refused memory leaves the page as before. So each call writes into `mark` first, and
+/// then puts that behind `text` at once.
 #[derive(Drop)]
 pub struct PageWriter {
     text: Vec<u8>,
@@ -57,8 +63,8 @@ impl PageWriter {
         })
     }
 
-    /// Opens an element in the innermost one that is open. An attribute that is given twice is written twice, which no browser reads
-    /// as meant: give each once.
+    /// Opens an element in the innermost one that is open. An attribute that is given twice is written
+    /// twice, which no browser reads as meant: give each once.
     pub fn open(&mut self, tag: Tag, attributes: &[(Attribute, Value)]) -> Result<(), OutOfMemory>
         ensures written { OnOk result (self.new ≡ opened tag (given attributes.now) self.old) }
         ensures tree { OnOk result (Follows (with_child tag (given attributes.now)) self.old self.new) }
@@ -93,8 +99,8 @@ impl PageWriter {
         Ok(())
     }
 
-    /// Writes an element that holds nothing. An attribute that is given twice is written twice, which no browser reads as meant: give
-    /// each once.
+    /// Writes an element that holds nothing. An attribute that is given twice is written twice, which no
+    /// browser reads as meant: give each once.
     pub fn empty(
         &mut self,
         tag: VoidTag,
@@ -110,7 +116,8 @@ impl PageWriter {
         Ok(())
     }
 
-    /// Writes words, whatever their bytes are. None of them can open or end an element, and who reads the page reads them back.
+    /// Writes words, whatever their bytes are. None of them can open or end an element (`inert`). Words
+    /// of which no byte is replaced are read back from the page as they were (`told`).
     pub fn text(&mut self, words: &[u8]) -> Result<(), OutOfMemory>
         ensures written { OnOk result (self.new ≡ added (Words words.now Nothing) self.old) }
         ensures tree { OnOk result (Follows (with_more (Words words.now Nothing)) self.old self.new) }
@@ -152,7 +159,8 @@ impl PageWriter {
         self.tags.len()
     }
 
-    /// The whole page, where each element that is open is ended.
+    /// The whole page: each element that is still open is ended, and then the page. The writer is used
+    /// up, also where memory is refused.
     #[tactic(auto, unfolding(crate::specs::Trees::page_end))]
     pub fn finish(mut self) -> Result<Vec<u8>, OutOfMemory>
         ensures written { IfOk result (λ page. page.items ≡ finished self) }

@@ -1,4 +1,4 @@
-//! The style sheet of a page.
+//! The style sheet of a page, which stands in the page itself.
 ghost use Rattle.std.specs.Prelude.{◌≡◌, ◌++◌, OnOk};
 ghost use Rattle.page_markup.specs.Trees.{style_text};
 
@@ -6,9 +6,10 @@ use foundation::OutOfMemory;
 
 /// The rules, one a line, in the order in which they stand in the page. They name no other file.
 ///
-/// The classes are `first` to `fourth`, the colours of series; `axis` and `grid`, lines of a drawing; `legend`, a line with the names
-/// of series, and `key`, the small square before each; `table`, a box in which a long table scrolls; `number`, a cell that stands at
-/// the right of its column; and `note`, what is said by the way.
+/// The classes `first` to `fourth` are the colours of series, and `axis` and `grid` lines of a drawing.
+/// `legend` is a line with the names of series, and `key` the small square before each. `table` is a box
+/// in which a long table scrolls, and `number` a cell that stands at the right of its column. `note` is
+/// what is said by the way.
 pub const STYLE: &[u8] =
     b"body{margin:0 auto;padding:1.5rem;max-width:56rem;background:#fff;color:#1b1f24;font:16px/1.5 system-ui,sans-serif}
 h1{margin:0 0 .5rem;font-size:1.7rem}

@@ -1,9 +1,10 @@
-//! The elements of a page.
+//! The elements of a page, and their names: the tags of HTML and of its drawings that pages need, and no
+//! others.
 ghost use Rattle.std.specs.Prelude.{◌≡◌};
 ghost use Rattle.page_markup.specs.Names.{tag_name, void_name};
 
-/// An element that may hold others and words. None of them fetches or runs anything. `Drawing`, `Group`, `Label` and
-/// `Description` are those of SVG; `Title` is the page's or a drawing's.
+/// An element that may hold others and words. None of them fetches or runs anything. `Drawing`, `Group`,
+/// `Label` and `Description` are those of SVG; `Title` is the page's or a drawing's.
 #[derive(Clone, Copy, Debug, PartialEq, Eq)]
 pub enum Tag {
     /// `head`
@@ -61,7 +62,7 @@ pub enum Tag {
 }
 
 impl Tag {
-    /// The name in a page. No memory.
+    /// The name of the element in a page. No memory.
     #[tactic(auto, unfolding(crate::specs::Names::tag_name))]
     pub fn name(self) -> &'static [u8]
         ensures { result.now ≡ tag_name self }
@@ -111,7 +112,7 @@ pub enum VoidTag {
 }
 
 impl VoidTag {
-    /// The name in a page. No memory.
+    /// The name of the element in a page. No memory.
     #[tactic(auto, unfolding(crate::specs::Names::void_name))]
     pub fn name(self) -> &'static [u8]
         ensures { result.now ≡ void_name self }

@@ -8,7 +8,9 @@ use std::test::Fail;
 /// The page, byte for byte.
 const PAGE: &[u8] = b"<!DOCTYPE html>
 <html lang=\"en\">
-<head><meta charset=\"utf-8\" /><title>&lt;/title&gt;&lt;script&gt;alert(&#39;1&#39;)&lt;/script&gt;</title></head><body><p class=\"&quot;&gt;&lt;b x=&#39;\">caf\xC3\xA9 \xEF\xBF\xBD\xEF\xBF\xBD
+<head><meta charset=\"utf-8\" />\
+<title>&lt;/title&gt;&lt;script&gt;alert(&#39;1&#39;)&lt;/script&gt;</title></head>\
+<body><p class=\"&quot;&gt;&lt;b x=&#39;\">caf\xC3\xA9 \xEF\xBF\xBD\xEF\xBF\xBD
 caf\xEF\xBF\xBD &amp;amp;18446744073709551615</p></body>
 </html>
 ";
@@ -37,6 +39,7 @@ fn hostile_page(alloc: Global) -> Result<Vec<u8>, OutOfMemory> {
     page.finish()
 }
 
+// Texts and a value that would open elements stand in the page as they are read.
 #[test]
 fn no_text_opens_an_element_or_leaves_an_attribute(rt: HostRuntime) -> Result<(), Fail> {
     let page = hostile_page(rt.alloc())?;

@@ -4,10 +4,10 @@ use Rattle.std.proofs.Common.{ap, codes, drop, get_or, length, refl, sym}
 use Rattle.std.proofs.lemmas.List.{at_drop_more}
 use Rattle.edit_model.specs.declared.field.Field.{Field}
 use Rattle.page_figures.proofs.PageLaws.{both}
-use Rattle.page_figures.specs.Drawings.{BarParts}
+use Rattle.page_figures.specs.Drawings.{BarParts, FigureParts}
 use Rattle.page_figures.specs.Sums.{plus}
 use Rattle.page_markup.specs.OpenPages.{OpenPage, added}
-use Rattle.page_sections.specs.Sections.{FigureParts, histogram_content}
+use Rattle.page_sections.specs.Sections.{histogram_content}
 use Rattle.page_sections.specs.ValueSection.{field_values, value_figure, value_series, values_from}
 use Rattle.release_figures.specs.declared.figures.FieldValues.{FieldValues}
 

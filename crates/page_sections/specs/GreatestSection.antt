@@ -4,24 +4,21 @@ use Rattle.std.specs.Prelude.{codes, flat_map, length, min, position, slice_inde
 use Rattle.std.specs.Option.{option_map_or}
 use Rattle.edit_language.specs.Printing.{name_at}
 use Rattle.page_markup.specs.Trees.{Content}
-use Rattle.page_counts.specs.Records.{released_rows}
 use Rattle.page_counts.specs.declared.amounts.Amount.{Amount}
 use Rattle.page_figures.specs.Tables.{Entry, table_content}
 use Rattle.page_figures.specs.Tables.Entry.{Number, Text}
-use Rattle.page_sections.specs.Releases.{ReleaseParts}
 use Rattle.page_sections.specs.Sections.{section_content}
 use Rattle.reason_lines.specs.declared.entry.Change.{Change}
 use Rattle.record_text.specs.Sheets.{SheetParts, text_at}
+use Rattle.release_figures.specs.Releases.{ReleaseParts}
+use Rattle.release_figures.specs.declared.figures.ReleaseFigures.{ReleaseFigures}
 
 -- the bytes of a field in the row of this number
 abbrev pub text_in : SheetParts → ℕ → ℕ → List ℕ
 text_in sheet f number = text_at sheet.columns (slice_index_or sheet.row_texts number []) f
 
--- the records that were released, in order: row k of the released file is the k-th of them
-abbrev pub numbers_of : ReleaseParts → List ℕ
-numbers_of release = released_rows (length release.records.rows) release.reasons.left_out
-
--- the bytes of a field in the released row of the record of this number, none where it is not among the records that were released
+-- the bytes of a field in the released row of the record of this number, none where it is not among the records that were released: row k
+-- of the released file is the k-th of them
 abbrev pub released_text : SheetParts → List ℕ → ℕ → ℕ → List ℕ
 released_text released records f number = option_map_or (text_in released f) (position (λ (n : ℕ). n == number) records) []
 
@@ -29,24 +26,26 @@ released_text released records f number = option_map_or (text_in released f) (po
 abbrev pub shown : ℕ → ℕ
 shown size = min size (2 ^ 64 - 1)
 
--- the row of a change: the record from 1, what its changes weigh, the field, and its bytes before and after
-abbrev pub change_row : ReleaseParts → Amount → Change → List Entry
-change_row release amount change =
+-- the row of a change: the record from 1, what its changes weigh, the field, and its bytes before and after. The numbers are those of the
+-- records that were released
+abbrev pub change_row : ReleaseParts → List ℕ → Amount → Change → List Entry
+change_row release numbers amount change =
     Number (amount.number + 1) ∷ Number (shown amount.size) ∷ Text (name_at release.survey.fields change.field)
     ∷ Text (text_in release.records change.field amount.number)
-    ∷ Text (released_text release.released (numbers_of release) change.field amount.number) ∷ []
+    ∷ Text (released_text release.released numbers change.field amount.number) ∷ []
 
 -- the row of a change, where it is one of this record
-abbrev pub rows_of_change : ReleaseParts → Amount → Change → List (List Entry)
-rows_of_change release amount change = if change.record == amount.number then change_row release amount change ∷ [] else []
+abbrev pub rows_of_change : ReleaseParts → List ℕ → Amount → Change → List (List Entry)
+rows_of_change release numbers amount change =
+    if change.record == amount.number then change_row release numbers amount change ∷ [] else []
 
 -- a row for each change of a record
-abbrev pub record_rows : ReleaseParts → Amount → List (List Entry)
-record_rows release amount = flat_map (rows_of_change release amount) release.reasons.changes
+abbrev pub record_rows : ReleaseParts → List ℕ → Amount → List (List Entry)
+record_rows release numbers amount = flat_map (rows_of_change release numbers amount) release.reasons.changes
 
 -- the same of some records, in their order
-abbrev pub greatest_rows : ReleaseParts → List Amount → List (List Entry)
-greatest_rows release greatest = flat_map (record_rows release) greatest
+abbrev pub greatest_rows : ReleaseParts → List ℕ → List Amount → List (List Entry)
+greatest_rows release numbers greatest = flat_map (record_rows release numbers) greatest
 
 -- the names of the columns
 unfoldable pub greatest_columns : List (List ℕ)
@@ -57,7 +56,8 @@ unfoldable pub greatest_note : List ℕ
 greatest_note = codes "A row for each changed field, with the bytes that were read and those that were released."
 
 -- the section
-abbrev pub greatest_section : ReleaseParts → List Amount → Content
-greatest_section release greatest =
+abbrev pub greatest_section : ReleaseParts → ReleaseFigures → Content
+greatest_section release figures =
     section_content (codes "Greatest changes") greatest_note
-    (table_content (codes "The twenty records whose changes weigh most") greatest_columns (greatest_rows release greatest))
+    (table_content (codes "The twenty records whose changes weigh most") greatest_columns
+    (greatest_rows release figures.released figures.greatest))

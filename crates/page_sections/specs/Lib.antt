@@ -3,7 +3,6 @@ pub mod FieldSection
 pub mod GreatestSection
 pub mod RecordSection
 pub mod ReleasePages
-pub mod Releases
 pub mod RuleSection
 pub mod Sections
 pub mod ValueSection

@@ -2,8 +2,8 @@
 use Rattle.std.specs.Prelude.{ℕ, ◌==◌, if◌then◌else◌, List, [], ◌∷◌, ◌++◌, codes}
 use Rattle.page_markup.specs.Trees.{Content}
 use Rattle.page_counts.specs.declared.records.RecordCounts.{RecordCounts}
-use Rattle.page_figures.specs.Drawings.{BarParts}
-use Rattle.page_sections.specs.Sections.{FigureParts, bars_content, count_bar, section_content}
+use Rattle.page_figures.specs.Drawings.{BarParts, FigureParts}
+use Rattle.page_sections.specs.Sections.{bars_content, count_bar, section_content}
 
 -- the bar of a cause, where some record was left out by it
 abbrev pub cause_bars : List ℕ → ℕ → List BarParts

@@ -1,7 +1,6 @@
 -- The page of a release.
 use Rattle.std.specs.Prelude.{◌≡◌, ◌+◌, ℕ, List, [], ◌∷◌, ◌++◌, codes, length}
 use Rattle.std.specs.Fmt.{decimal}
-use Rattle.edit_model.specs.Parts.{SurveyParts}
 use Rattle.page_markup.specs.Drafts.{followed}
 use Rattle.page_markup.specs.Trees.{Content, page_text}
 use Rattle.page_markup.specs.Trees.Content.{Element, Nothing, Style, Void, Words}
@@ -13,13 +12,11 @@ use Rattle.page_sections.specs.DonorSection.{donor_section}
 use Rattle.page_sections.specs.FieldSection.{field_section}
 use Rattle.page_sections.specs.GreatestSection.{greatest_section}
 use Rattle.page_sections.specs.RecordSection.{record_section}
-use Rattle.page_sections.specs.Releases.{ReleaseParts}
 use Rattle.page_sections.specs.RuleSection.{rule_section}
 use Rattle.page_sections.specs.ValueSection.{value_section}
 use Rattle.page_sections.specs.WeightSection.{weight_section}
-use Rattle.reason_lines.specs.declared.reading.Reasons.{Reasons}
-use Rattle.record_text.specs.Sheets.{SheetParts}
 use Rattle.release_figures.specs.Figures.{AreFigures}
+use Rattle.release_figures.specs.Releases.{ReleaseParts}
 use Rattle.release_figures.specs.declared.figures.ReleaseFigures.{ReleaseFigures}
 
 -- the title, which is the first heading too
@@ -63,7 +60,7 @@ sections_content release figures =
     (followed (rule_section release.survey figures)
     (followed (weight_section figures.weights)
     (followed (value_section release.survey.fields figures.values)
-    (followed (greatest_section release figures.greatest)
+    (followed (greatest_section release figures)
     (donor_section figures.gifts))))))
 
 abbrev pub body_content : ReleaseParts → ReleaseFigures → Content
@@ -77,9 +74,7 @@ abbrev pub page_content : ReleaseParts → ReleaseFigures → Content
 page_content release figures = followed head_content (body_content release figures)
 
 -- the bytes are the page of a release: its figures are counted from its files, and the page says them
-pub record IsReleasePage (survey : SurveyParts) (records released : SheetParts) (reasons : Reasons) (bytes : List ℕ) : Type 0 where
+pub record IsReleasePage (release : ReleaseParts) (bytes : List ℕ) : Type 0 where
   pub figures : ReleaseFigures
-  pub counted : AreFigures survey records released reasons figures
-  pub written : bytes
-      ≡ page_text (codes "en")
-      (page_content (record { survey = survey; records = records; released = released; reasons = reasons }) figures)
+  pub counted : AreFigures release figures
+  pub written : bytes ≡ page_text (codes "en") (page_content release figures)

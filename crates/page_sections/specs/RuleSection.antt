@@ -8,8 +8,8 @@ use Rattle.edit_model.specs.declared.rule.Rule.{Rule}
 use Rattle.page_markup.specs.Trees.{Content}
 use Rattle.page_counts.specs.declared.amounts.Amount.{Amount}
 use Rattle.page_counts.specs.declared.rules.RuleCount.{RuleCount}
-use Rattle.page_figures.specs.Drawings.{BarParts}
-use Rattle.page_sections.specs.Sections.{FigureParts, bars_content, section_content}
+use Rattle.page_figures.specs.Drawings.{BarParts, FigureParts}
+use Rattle.page_sections.specs.Sections.{bars_content, section_content}
 use Rattle.release_figures.specs.declared.figures.ReleaseFigures.{ReleaseFigures}
 
 -- a rule, as it stands in the rule file

@@ -6,47 +6,25 @@ use Rattle.page_markup.specs.Trees.Content.{Element, Nothing, Words}
 use Rattle.page_markup.specs.declared.attribute.Attribute.TheVariants.{Class}
 use Rattle.page_markup.specs.declared.tag.Tag.TheVariants as tag
 use Rattle.page_counts.specs.declared.amounts.SizeCount.{SizeCount}
-use Rattle.page_figures.specs.Drawings.{BarParts}
+use Rattle.page_figures.specs.Drawings.{BarParts, FigureParts}
 use Rattle.page_figures.specs.Figures.{figure_content}
-use Rattle.page_figures.specs.declared.figure.Figure.{Figure}
 use Rattle.page_figures.specs.declared.figure.Form.TheVariants.{Stacked, Upright}
 use Rattle.page_sections.specs.declared.own_bar.OwnBar.{OwnBar}
 
 -- ---- figures
 
--- what a figure is called
-pub record FigureParts : Type 0 where
-  pub id : ℕ
-  pub title : List ℕ
-  pub description : List ℕ
-  pub subject : List ℕ
-
-abbrev pub figure_parts : Figure → FigureParts
-figure_parts figure =
-    record { id = figure.id; title = figure.title.now; description = figure.description.now; subject = figure.subject.now }
-
--- a figure that is called so; where its words stand in memory shows nowhere
-abbrev pub called : FigureParts → Figure
-called parts =
-    record {
-      id = parts.id;
-      title = record { ref_ptr = (0, 0); now = parts.title };
-      description = record { ref_ptr = (0, 0); now = parts.description };
-      subject = record { ref_ptr = (0, 0); now = parts.subject };
-    }
-
 -- bars that lie one below the other, with the table of their numbers
 abbrev pub bars_content : FigureParts → List (List ℕ) → List BarParts → Content
-bars_content parts series bars = figure_content Stacked (called parts) series bars
+bars_content figure series bars = figure_content Stacked figure series bars
 
 -- upright bars side by side, with the table of their numbers
 abbrev pub histogram_content : FigureParts → List (List ℕ) → List BarParts → Content
-histogram_content parts series bins = figure_content Upright (called parts) series bins
+histogram_content figure series bins = figure_content Upright figure series bins
 
 -- ---- bars
 
-abbrev pub own_parts : OwnBar → BarParts
-own_parts bar = record { label = bar.label.items; parts = bar.parts.items }
+abbrev pub bar_parts : OwnBar → BarParts
+bar_parts bar = record { label = bar.label.items; parts = bar.parts.items }
 
 -- a bar of one number
 abbrev pub count_bar : List ℕ → ℕ → BarParts

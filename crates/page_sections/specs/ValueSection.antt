@@ -15,11 +15,11 @@ use Rattle.page_counts.specs.Bins.{bin_low}
 use Rattle.page_counts.specs.Thousandths.{decimal_text}
 use Rattle.page_counts.specs.declared.bins.Bins.{Bins}
 use Rattle.page_counts.specs.declared.codes.CodeCounts.{CodeCounts}
-use Rattle.page_figures.specs.Drawings.{BarParts}
+use Rattle.page_figures.specs.Drawings.{BarParts, FigureParts}
 use Rattle.page_figures.specs.Sums.{plus}
 use Rattle.page_figures.specs.Tables.{Entry, table_content}
 use Rattle.page_figures.specs.Tables.Entry.{Number, Text}
-use Rattle.page_sections.specs.Sections.{FigureParts, histogram_content, pair_bar, section_content}
+use Rattle.page_sections.specs.Sections.{histogram_content, pair_bar, section_content}
 use Rattle.release_figures.specs.declared.figures.FieldValues.{FieldValues}
 use Rattle.release_figures.specs.declared.figures.FieldValues.TheVariants.{Codes, Numbers}
 use Rattle.release_figures.specs.declared.figures.NumberValues.{NumberValues}

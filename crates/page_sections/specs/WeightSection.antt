@@ -2,7 +2,8 @@
 use Rattle.std.specs.Prelude.{List, [], ◌∷◌, ℕ, codes, map}
 use Rattle.page_markup.specs.Trees.{Content}
 use Rattle.page_counts.specs.declared.amounts.SizeCount.{SizeCount}
-use Rattle.page_sections.specs.Sections.{FigureParts, histogram_content, section_content, size_bar}
+use Rattle.page_figures.specs.Drawings.{FigureParts}
+use Rattle.page_sections.specs.Sections.{histogram_content, section_content, size_bar}
 
 -- what the figure is called
 unfoldable pub weight_figure : FigureParts

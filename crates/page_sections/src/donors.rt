@@ -1,4 +1,5 @@
-//! How often donors gave.
+//! The section on how often donors gave. In contracts, `added` says what content is put last in the
+//! page's innermost open element.
 ghost use Rattle.std.specs.Prelude.{◌≡◌, OnOk};
 ghost use Rattle.page_markup.specs.OpenPages.{added};
 ghost use Rattle.page_sections.specs.DonorSection.{donor_section};
@@ -20,7 +21,7 @@ const FIGURE: Figure = Figure {
 
 const NOTE: &[u8] = b"A donor is a record that gave values to others.";
 
-/// Adds the section on how often donors gave.
+/// Adds the section on how often donors gave: an upright bar for each of these numbers of records.
 pub(crate) fn push_donors(
     alloc: Global,
     page: &mut PageWriter,

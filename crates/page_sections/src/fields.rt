@@ -1,9 +1,10 @@
-//! How often fields were changed.
+//! The section on how often fields were changed. In contracts, `added` says what content is put last in
+//! the page's innermost open element.
 ghost use Rattle.std.specs.Prelude.{◌≡◌, IfOk, OnOk, map, slice_get};
 ghost use Rattle.edit_language.specs.Printing.{name_at};
 ghost use Rattle.page_markup.specs.OpenPages.{added};
 ghost use Rattle.page_sections.specs.FieldSection.{change_parts, field_bar, field_section};
-ghost use Rattle.page_sections.specs.Sections.{own_parts};
+ghost use Rattle.page_sections.specs.Sections.{bar_parts};
 
 use crate::own_bar::{OwnBar, push_own_bars};
 use crate::section::open_section;
@@ -43,14 +44,15 @@ pub(crate) fn push_fields(
     page.close()
 }
 
-// A bar for each of the fields, in this order.
+// A bar for each of the fields of these amounts, in this order. `counts` has how often each field was
+// changed, in declared order.
 fn field_bars(
     alloc: Global,
     fields: &[Field],
     counts: &[FieldCount],
     amounts: &[Amount],
 ) -> Result<Vec<OwnBar>, OutOfMemory>
-    ensures { IfOk result (λ bars. map own_parts bars.items ≡ map (field_bar fields.now counts.now) amounts.now) }
+    ensures { IfOk result (λ bars. map bar_parts bars.items ≡ map (field_bar fields.now counts.now) amounts.now) }
 {
     let mut bars = Vec::new(alloc);
     for amount in amounts {
@@ -59,14 +61,14 @@ fn field_bars(
     Ok(bars)
 }
 
-// The bar of the field of this number.
+// The bar of the field whose number the amount has: its name, and how often it was changed in each way.
 fn field_bar(
     alloc: Global,
     fields: &[Field],
     counts: &[FieldCount],
     amount: Amount,
 ) -> Result<OwnBar, OutOfMemory>
-    ensures { IfOk result (λ bar. own_parts bar ≡ field_bar fields.now counts.now amount) }
+    ensures { IfOk result (λ bar. bar_parts bar ≡ field_bar fields.now counts.now amount) }
 {
     let number = amount.number as usize;
     Ok(OwnBar {
@@ -85,7 +87,8 @@ pub(crate) fn name_at(fields: &[Field], number: usize) -> &[u8]
     }
 }
 
-// How often the field of this number was changed, by how its new value was found.
+// How often the field of this number was changed: with a donor's value, with the nearest one, and by
+// default. No parts where there is no such field.
 fn change_parts(
     alloc: Global,
     counts: &[FieldCount],

@@ -1,20 +1,22 @@
-//! The records whose changes weigh most, change by change.
+//! The section on the records whose changes weigh most, change by change. In contracts, `added` says
+//! what content is put last in the page, and `entry_of` is what definitions see of a cell. `numbers` are
+//! everywhere the numbers of the released records, in order.
 ghost use Rattle.std.specs.Prelude.{◌≡◌, ◌++◌, IfOk, OnOk, map};
 ghost use Rattle.page_markup.specs.OpenPages.{added};
 ghost use Rattle.page_figures.specs.Tables.{entry_of};
-ghost use Rattle.page_sections.specs.GreatestSection.{change_row, greatest_rows, greatest_section, numbers_of};
+ghost use Rattle.page_sections.specs.GreatestSection.{change_row, greatest_rows, greatest_section};
 ghost use Rattle.page_sections.specs.GreatestSection.{record_rows, rows_of_change, shown};
-ghost use Rattle.page_sections.specs.Releases.{release_parts};
+ghost use Rattle.release_figures.specs.Releases.{release_parts};
 
 use crate::fields::name_at;
-use crate::release::Release;
 use crate::section::open_section;
 use crate::sheet_text::{released_text, text_in};
 use foundation::OutOfMemory;
-use page_counts::{Amount, released_rows};
+use page_counts::Amount;
 use page_figures::{Cell, push_table};
 use page_markup::PageWriter;
 use reason_lines::Change;
+use release_figures::{Release, ReleaseFigures};
 use std::alloc::Global;
 
 const NOTE: &[u8] =
@@ -22,16 +24,18 @@ const NOTE: &[u8] =
 
 const COLUMNS: &[&[u8]] = &[b"record", b"weight", b"field", b"before", b"after"];
 
-/// Adds the section on the records whose changes weigh most.
+/// Adds the section on the records whose changes weigh most: a table with a row for each of their
+/// changes.
 pub(crate) fn push_greatest(
     alloc: Global,
     page: &mut PageWriter,
     release: &Release,
-    greatest: &[Amount],
+    figures: &ReleaseFigures,
 ) -> Result<(), OutOfMemory>
-    ensures { OnOk result (page.new ≡ added (greatest_section (release_parts release.now) greatest.now) page.old) }
+    ensures { OnOk result (page.new ≡ added (greatest_section (release_parts release.now) figures.now) page.old) }
 {
-    let rows = greatest_rows(alloc, release, greatest)?;
+    let numbers = figures.released.as_slice();
+    let rows = greatest_rows(alloc, release, numbers, figures.greatest.as_slice())?;
     open_section(page, b"Greatest changes", NOTE)?;
     push_table(
         page,
@@ -42,25 +46,24 @@ pub(crate) fn push_greatest(
     page.close()
 }
 
-// The rows of these records, in their order.
+// The rows of the records `greatest`, in their order.
 fn greatest_rows<'a>(
     alloc: Global,
     release: &Release<'a>,
+    numbers: &[u32],
     greatest: &[Amount],
 ) -> Result<Vec<Vec<Cell<'a>>>, OutOfMemory>
     ensures { IfOk result (λ rows.
-        map (λ r. map entry_of r.items) rows.items ≡ greatest_rows (release_parts release.now) greatest.now) }
+        map (λ r. map entry_of r.items) rows.items ≡ greatest_rows (release_parts release.now) numbers.now greatest.now) }
 {
-    let left_out = release.reasons.left_out.as_slice();
-    let numbers = released_rows(alloc, release.records.len(), left_out)?;
     let mut rows = Vec::new(alloc);
     for amount in greatest {
-        push_record_rows(alloc, &mut rows, release, &numbers, *amount)?;
+        push_record_rows(alloc, &mut rows, release, numbers, *amount)?;
     }
     Ok(rows)
 }
 
-// Appends a row for each change of a record. The numbers are those of the records that were released.
+// Appends a row for each change of the record whose number the amount has.
 fn push_record_rows<'a>(
     alloc: Global,
     rows: &mut Vec<Vec<Cell<'a>>>,
@@ -68,9 +71,8 @@ fn push_record_rows<'a>(
     numbers: &[u32],
     amount: Amount,
 ) -> Result<(), OutOfMemory>
-    requires { numbers.now ≡ numbers_of (release_parts release.now) }
     ensures { OnOk result (map (λ r. map entry_of r.items) rows.new.items
-        ≡ map (λ r. map entry_of r.items) rows.old.items ++ record_rows (release_parts release.now) amount) }
+        ≡ map (λ r. map entry_of r.items) rows.old.items ++ record_rows (release_parts release.now) numbers.now amount) }
 {
     let changes = release.reasons.changes.as_slice();
     for change in changes {
@@ -79,7 +81,7 @@ fn push_record_rows<'a>(
     Ok(())
 }
 
-// Appends the row of a change, where it is one of this record.
+// Appends the row of a change, where it is one of the record whose number the amount has.
 fn push_change<'a>(
     alloc: Global,
     rows: &mut Vec<Vec<Cell<'a>>>,
@@ -88,9 +90,9 @@ fn push_change<'a>(
     amount: Amount,
     change: &Change,
 ) -> Result<(), OutOfMemory>
-    requires { numbers.now ≡ numbers_of (release_parts release.now) }
     ensures { OnOk result (map (λ r. map entry_of r.items) rows.new.items
-        ≡ map (λ r. map entry_of r.items) rows.old.items ++ rows_of_change (release_parts release.now) amount change.now) }
+        ≡ map (λ r. map entry_of r.items) rows.old.items
+        ++ rows_of_change (release_parts release.now) numbers.now amount change.now) }
 {
     if change.record == amount.number {
         rows.push(change_row(alloc, release, numbers, amount, change)?)?;
@@ -98,7 +100,8 @@ fn push_change<'a>(
     Ok(())
 }
 
-// The row of a change.
+// The row of a change. It has the number of its record, from 1, the weight of all changes of that, the
+// field's name, and its bytes before and after.
 fn change_row<'a>(
     alloc: Global,
     release: &Release<'a>,
@@ -106,8 +109,7 @@ fn change_row<'a>(
     amount: Amount,
     change: &Change,
 ) -> Result<Vec<Cell<'a>>, OutOfMemory>
-    requires { numbers.now ≡ numbers_of (release_parts release.now) }
-    ensures { IfOk result (λ row. map entry_of row.items ≡ change_row (release_parts release.now) amount change.now) }
+    ensures { IfOk result (λ row. map entry_of row.items ≡ change_row (release_parts release.now) numbers.now amount change.now) }
 {
     let name = name_at(release.survey.fields(), change.field as usize);
     let before = text_in(release.records, change.field, amount.number as usize);
@@ -121,7 +123,7 @@ fn change_row<'a>(
     ]?)
 }
 
-// A size, or the greatest number that can be shown.
+// A size; past 64 bits it is 2^64 - 1.
 fn shown(size: u128) -> u64
     ensures { result ≡ shown size }
 {

@@ -1,17 +1,18 @@
-//! What stands before the sections: the head of the page, and its header.
+//! What stands before the sections: the head of the page, and its header. In contracts, `added` says
+//! what content is put last in the page's innermost open element.
 ghost use Rattle.std.specs.Prelude.{◌≡◌, ◌+◌, ◌^◌, ◌<◌, IfOk, OnOk};
 ghost use Rattle.page_markup.specs.OpenPages.{added};
 ghost use Rattle.page_sections.specs.ReleasePages.{head_content, header_content, left_out_total, summary, viewport_content};
 
-use crate::section::push_element;
 use foundation::OutOfMemory;
 use page_counts::RecordCounts;
+use page_figures::push_words;
 use page_markup::{Attribute, PageWriter, Tag, Value, VoidTag};
 use std::alloc::Global;
 
 const TITLE: &[u8] = b"What an edit changed";
 
-/// Adds the head.
+/// Adds the head: that the page is UTF-8, how wide it is, its title, and the style sheet.
 pub(crate) fn push_head(page: &mut PageWriter) -> Result<(), OutOfMemory>
     ensures { OnOk result (page.new ≡ added head_content page.old) }
 {
@@ -21,7 +22,7 @@ pub(crate) fn push_head(page: &mut PageWriter) -> Result<(), OutOfMemory>
         &[(Attribute::Charset, Value::Words(b"utf-8"))],
     )?;
     push_viewport(page)?;
-    push_element(page, Tag::Title, TITLE)?;
+    push_words(page, Tag::Title, &[], TITLE)?;
     page.style()?;
     page.close()
 }
@@ -42,7 +43,7 @@ fn push_viewport(page: &mut PageWriter) -> Result<(), OutOfMemory>
     )
 }
 
-/// Adds the first heading, and what became of the records.
+/// Adds the first heading, and a sentence on what became of the records, of which there are `rows`.
 pub(crate) fn push_header(
     alloc: Global,
     page: &mut PageWriter,
@@ -53,12 +54,12 @@ pub(crate) fn push_header(
 {
     let words = summary(alloc, rows, counts)?;
     page.open(Tag::Header, &[])?;
-    push_element(page, Tag::Heading1, TITLE)?;
-    push_element(page, Tag::Paragraph, &words)?;
+    push_words(page, Tag::Heading1, &[], TITLE)?;
+    push_words(page, Tag::Paragraph, &[], &words)?;
     page.close()
 }
 
-// How many records there are, and what became of them.
+// How many records there are, and what became of them: `9 records: 5 clean, 3 changed, 1 left out.`
 fn summary(alloc: Global, rows: u32, counts: &RecordCounts) -> Result<Vec<u8>, OutOfMemory>
     ensures { IfOk result (λ words. words.items ≡ summary rows counts.now) }
 {
@@ -71,7 +72,7 @@ fn summary(alloc: Global, rows: u32, counts: &RecordCounts) -> Result<Vec<u8>, O
     Ok(words.into_bytes())
 }
 
-// How many records were left out.
+// How many records were left out, by whichever cause.
 fn left_out_total(counts: &RecordCounts) -> u128
     ensures { result ≡ left_out_total counts.now }
 {

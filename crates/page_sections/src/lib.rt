@@ -1,5 +1,6 @@
-//! The page of a release: what an edit changed, section by section, for a reader who has a browser and no network. What the page
-//! holds is stated in `specs/ReleasePages.antt`, over one file a section. Begin with [`release_page`].
+//! The page of a release: what an edit changed, section by section, for a reader who has a browser and
+//! no network. What the page holds is stated in `specs/ReleasePages.antt`, over one file a section.
+//! Begin with [`release_page`].
 #![tactic(auto)]
 
 mod donors;
@@ -9,7 +10,6 @@ mod head;
 mod own_bar;
 mod page;
 mod records;
-mod release;
 mod rules;
 mod section;
 mod sheet_text;

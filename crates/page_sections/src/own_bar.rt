@@ -1,8 +1,9 @@
-//! Bars with memory of their own, and their figures.
+//! Bars with memory of their own, and their figures. In contracts, `bar_parts` is what definitions see
+//! of a bar, and `added` says what content is put last in the page.
 ghost use Rattle.std.specs.Prelude.{◌≡◌, IfOk, OnOk, map};
 ghost use Rattle.page_markup.specs.OpenPages.{added};
-ghost use Rattle.page_figures.specs.Drawings.{parts_of};
-ghost use Rattle.page_sections.specs.Sections.{bars_content, count_bar, figure_parts, histogram_content, own_parts, pair_bar, size_bar};
+ghost use Rattle.page_figures.specs.Drawings.{figure_parts, parts_of};
+ghost use Rattle.page_sections.specs.Sections.{bars_content, count_bar, histogram_content, bar_parts, pair_bar, size_bar};
 
 use foundation::OutOfMemory;
 use page_counts::SizeCount;
@@ -10,7 +11,7 @@ use page_figures::{Bar, Figure, push_bars, push_histogram};
 use page_markup::PageWriter;
 use std::alloc::Global;
 
-/// A bar, or a bin of a histogram.
+/// A bar, or a bin of a histogram: what it is called, and its numbers, one for each series.
 #[derive(Drop)]
 pub(crate) struct OwnBar {
     pub label: Vec<u8>,
@@ -19,7 +20,7 @@ pub(crate) struct OwnBar {
 
 /// A bar of one number.
 pub(crate) fn count_bar(alloc: Global, label: &[u8], count: usize) -> Result<OwnBar, OutOfMemory>
-    ensures { IfOk result (λ bar. own_parts bar ≡ count_bar label.now count) }
+    ensures { IfOk result (λ bar. bar_parts bar ≡ count_bar label.now count) }
 {
     Ok(OwnBar {
         label: Vec::from_slice(alloc, label)?,
@@ -34,7 +35,7 @@ pub(crate) fn pair_bar(
     before: usize,
     after: usize,
 ) -> Result<OwnBar, OutOfMemory>
-    ensures { IfOk result (λ bar. own_parts bar ≡ pair_bar label.now before after) }
+    ensures { IfOk result (λ bar. bar_parts bar ≡ pair_bar label.now before after) }
 {
     Ok(OwnBar {
         label: Vec::from_slice(alloc, label)?,
@@ -42,9 +43,9 @@ pub(crate) fn pair_bar(
     })
 }
 
-/// A bar for each size.
+/// A bar for each size, with how many have it.
 pub(crate) fn size_bars(alloc: Global, counts: &[SizeCount]) -> Result<Vec<OwnBar>, OutOfMemory>
-    ensures { IfOk result (λ bars. map own_parts bars.items ≡ map size_bar counts.now) }
+    ensures { IfOk result (λ bars. map bar_parts bars.items ≡ map size_bar counts.now) }
 {
     let mut bars = Vec::new(alloc);
     for count in counts {
@@ -53,16 +54,17 @@ pub(crate) fn size_bars(alloc: Global, counts: &[SizeCount]) -> Result<Vec<OwnBa
     Ok(bars)
 }
 
-// The bar of a size.
+// The bar of a size: the size is its label, and how many have it is its number.
 fn size_bar(alloc: Global, count: SizeCount) -> Result<OwnBar, OutOfMemory>
-    ensures { IfOk result (λ bar. own_parts bar ≡ size_bar count) }
+    ensures { IfOk result (λ bar. bar_parts bar ≡ size_bar count) }
 {
     let size = count.size;
     let label = format!(in alloc; "{size}")?;
     count_bar(alloc, label.as_bytes(), count.count)
 }
 
-/// Adds bars that lie one below the other, and the table of their numbers.
+/// Adds bars that lie one below the other, and the table of their numbers. `series` are the names of
+/// their parts.
 pub(crate) fn push_own_bars(
     alloc: Global,
     page: &mut PageWriter,
@@ -71,13 +73,13 @@ pub(crate) fn push_own_bars(
     bars: &[OwnBar],
 ) -> Result<(), OutOfMemory>
     ensures { OnOk result (page.new ≡ added
-        (bars_content (figure_parts figure.now) (map (λ s. s.now) series.now) (map own_parts bars.now)) page.old) }
+        (bars_content (figure_parts figure.now) (map (λ s. s.now) series.now) (map bar_parts bars.now)) page.old) }
 {
     let bars = lent(alloc, bars)?;
     push_bars(alloc, page, figure, series, &bars)
 }
 
-/// Adds upright bars, and the table of their numbers.
+/// Adds upright bars, and the table of their numbers. `series` are the names of the bars of a bin.
 pub(crate) fn push_own_histogram(
     alloc: Global,
     page: &mut PageWriter,
@@ -86,15 +88,15 @@ pub(crate) fn push_own_histogram(
     bins: &[OwnBar],
 ) -> Result<(), OutOfMemory>
     ensures { OnOk result (page.new ≡ added
-        (histogram_content (figure_parts figure.now) (map (λ s. s.now) series.now) (map own_parts bins.now)) page.old) }
+        (histogram_content (figure_parts figure.now) (map (λ s. s.now) series.now) (map bar_parts bins.now)) page.old) }
 {
     let bins = lent(alloc, bins)?;
     push_histogram(alloc, page, figure, series, &bins)
 }
 
-// The bars, lent.
+// The bars without memory of their own, as figures take them.
 fn lent(alloc: Global, bars: &[OwnBar]) -> Result<Vec<Bar<'_>>, OutOfMemory>
-    ensures { IfOk result (λ lent. map parts_of lent.items ≡ map own_parts bars.now) }
+    ensures { IfOk result (λ lent. map parts_of lent.items ≡ map bar_parts bars.now) }
 {
     let mut lent = Vec::new(alloc);
     for bar in bars {

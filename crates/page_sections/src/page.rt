@@ -1,56 +1,44 @@
-//! The page of a release.
-ghost use Rattle.std.specs.List.Sorted.{IsNonDecreasingBy};
+//! The page of a release, put together of its head and its sections. In contracts, `added` says what
+//! content is put last in the page's innermost open element. `AreFigures` says that the figures are
+//! counted from the files of the release, and `IsReleasePage` that the page says them.
 ghost use Rattle.std.specs.Prelude.{◌≡◌, IfOk, OnOk};
 ghost use Rattle.page_markup.specs.OpenPages.{added};
 ghost use Rattle.page_markup.specs.Trees.{IsWellFormed};
-ghost use Rattle.reason_lines.specs.declared.entry.Change.{Change as AnyChange};
 ghost use Rattle.page_sections.specs.ReleasePages.{body_content, IsReleasePage, sections_content};
-ghost use Rattle.page_sections.specs.Releases.{release_parts};
+ghost use Rattle.release_figures.specs.Figures.{AreFigures};
+ghost use Rattle.release_figures.specs.Releases.{release_parts};
 
 use crate::donors::push_donors;
 use crate::fields::push_fields;
 use crate::greatest::push_greatest;
 use crate::head::{push_head, push_header};
 use crate::records::push_records;
-use crate::release::Release;
 use crate::rules::push_rules;
 use crate::values::push_values;
 use crate::weights::push_weights;
-use edit_model::Survey;
 use foundation::OutOfMemory;
 use page_markup::{PageWriter, Tag};
-use reason_lines::Reasons;
-use record_text::Sheet;
-use release_figures::{ReleaseFigures, figures_of};
+use release_figures::{Release, ReleaseFigures};
 use std::alloc::Global;
 
-/// The page that says what an edit changed: of a survey, its records as they came and as they were released, and the reasons of the
-/// edit, whose changes stand in the order of their records. It is an HTML text in UTF-8, which fetches nothing and runs nothing.
+/// The page that says what an edit changed, by the figures of its release. It is an HTML text in UTF-8,
+/// which fetches nothing and runs nothing.
 pub fn release_page(
     alloc: Global,
-    survey: &Survey,
-    records: &Sheet,
-    released: &Sheet,
-    reasons: &Reasons,
+    release: &Release,
+    figures: &ReleaseFigures,
 ) -> Result<Vec<u8>, OutOfMemory>
-    requires { IsNonDecreasingBy (λ (c : AnyChange). c.record) reasons.now.changes }
-    ensures page { IfOk result (λ page. IsReleasePage survey.now records.now released.now reasons.now page.items) }
+    requires { AreFigures (release_parts release.now) figures.now }
+    ensures page { IfOk result (λ page. IsReleasePage (release_parts release.now) page.items) }
     ensures well_formed { IfOk result (λ page. IsWellFormed page.items) }
 {
-    let figures = figures_of(alloc, survey, records, released, reasons)?;
     let mut page = PageWriter::new(alloc, b"en")?;
     push_head(&mut page)?;
-    let release = Release {
-        survey,
-        records,
-        released,
-        reasons,
-    };
-    push_body(alloc, &mut page, &release, &figures)?;
+    push_body(alloc, &mut page, release, figures)?;
     page.finish()
 }
 
-// Adds the body.
+// Adds the body: the header, and then the sections.
 fn push_body(
     alloc: Global,
     page: &mut PageWriter,
@@ -67,7 +55,7 @@ fn push_body(
     page.close()
 }
 
-// Adds the sections.
+// Adds the seven sections, in the order in which they stand in the page.
 fn push_sections(
     alloc: Global,
     page: &mut PageWriter,
@@ -82,6 +70,6 @@ fn push_sections(
     push_rules(alloc, page, release.survey, figures)?;
     push_weights(alloc, page, figures.weights.as_slice())?;
     push_values(alloc, page, fields, figures.values.as_slice())?;
-    push_greatest(alloc, page, release, figures.greatest.as_slice())?;
+    push_greatest(alloc, page, release, figures)?;
     push_donors(alloc, page, figures.gifts.as_slice())
 }

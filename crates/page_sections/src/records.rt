@@ -1,8 +1,9 @@
-//! What became of the records.
+//! The section on what became of the records. In contracts, `added` says what content is put last in the
+//! page's innermost open element.
 ghost use Rattle.std.specs.Prelude.{◌≡◌, ◌++◌, IfOk, OnOk, map};
 ghost use Rattle.page_markup.specs.OpenPages.{added};
 ghost use Rattle.page_sections.specs.RecordSection.{cause_bars, record_bars, record_section};
-ghost use Rattle.page_sections.specs.Sections.{own_parts};
+ghost use Rattle.page_sections.specs.Sections.{bar_parts};
 
 use crate::own_bar::{OwnBar, count_bar, push_own_bars};
 use crate::section::open_section;
@@ -36,9 +37,10 @@ pub(crate) fn push_records(
     page.close()
 }
 
-// A bar for the clean records, one for the changed ones, and one for each cause by which records were left out.
+// A bar for the clean records, one for the changed ones, and one for each cause by which records were
+// left out.
 fn record_bars(alloc: Global, counts: &RecordCounts) -> Result<Vec<OwnBar>, OutOfMemory>
-    ensures { IfOk result (λ bars. map own_parts bars.items ≡ record_bars counts.now) }
+    ensures { IfOk result (λ bars. map bar_parts bars.items ≡ record_bars counts.now) }
 {
     let clean = count_bar(alloc, b"clean", counts.clean)?;
     let changed = count_bar(alloc, b"changed", counts.changed)?;
@@ -51,14 +53,14 @@ fn record_bars(alloc: Global, counts: &RecordCounts) -> Result<Vec<OwnBar>, OutO
     Ok(bars)
 }
 
-// Appends the bar of a cause, where some record was left out by it.
+// Appends the bar of the cause `word`, where some record was left out by it.
 fn push_cause(
     alloc: Global,
     bars: &mut Vec<OwnBar>,
     word: &[u8],
     count: usize,
 ) -> Result<(), OutOfMemory>
-    ensures { OnOk result (map own_parts bars.new.items ≡ map own_parts bars.old.items ++ cause_bars word.now count) }
+    ensures { OnOk result (map bar_parts bars.new.items ≡ map bar_parts bars.old.items ++ cause_bars word.now count) }
 {
     if count != 0 {
         bars.push(count_bar(alloc, word, count)?)?;

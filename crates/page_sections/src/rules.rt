@@ -1,8 +1,9 @@
-//! How many records broke each rule.
+//! The section on how many records broke each rule. In contracts, `added` says what content is put last
+//! in the page's innermost open element.
 ghost use Rattle.std.specs.Prelude.{◌≡◌, ◌++◌, IfOk, OnOk, map, slice_get};
 ghost use Rattle.page_markup.specs.OpenPages.{added};
 ghost use Rattle.page_sections.specs.RuleSection.{break_parts, rule_bar, rule_label, rule_section, rule_words};
-ghost use Rattle.page_sections.specs.Sections.{own_parts};
+ghost use Rattle.page_sections.specs.Sections.{bar_parts};
 
 use crate::own_bar::{OwnBar, push_own_bars};
 use crate::section::open_section;
@@ -23,7 +24,8 @@ const FIGURE: Figure = Figure {
 };
 
 const NOTE: &[u8] =
-    b"A rule is not tried at a record without a value in a field that the rule reads, or where a number leaves 128 bits. All records count as they came.";
+    b"A rule is not tried at a record without a value in a field that the rule reads, or where a number leaves 128 bits. \
+      All records count as they came.";
 
 const SERIES: &[&[u8]] = &[b"broken", b"not tried"];
 
@@ -43,14 +45,15 @@ pub(crate) fn push_rules(
     page.close()
 }
 
-// A bar for each of the rules, in this order.
+// A bar for each of the rules of these amounts, in this order. `counts` has the counts of each rule, in
+// declared order.
 fn rule_bars(
     alloc: Global,
     survey: &Survey,
     counts: &[RuleCount],
     amounts: &[Amount],
 ) -> Result<Vec<OwnBar>, OutOfMemory>
-    ensures { IfOk result (λ bars. map own_parts bars.items ≡ map (rule_bar survey.now counts.now) amounts.now) }
+    ensures { IfOk result (λ bars. map bar_parts bars.items ≡ map (rule_bar survey.now counts.now) amounts.now) }
 {
     let mut bars = Vec::new(alloc);
     for amount in amounts {
@@ -59,14 +62,15 @@ fn rule_bars(
     Ok(bars)
 }
 
-// The bar of the rule of this number.
+// The bar of the rule whose number the amount has: the rule, how many records broke it, and at how many
+// it was not tried.
 fn rule_bar(
     alloc: Global,
     survey: &Survey,
     counts: &[RuleCount],
     amount: Amount,
 ) -> Result<OwnBar, OutOfMemory>
-    ensures { IfOk result (λ bar. own_parts bar ≡ rule_bar survey.now counts.now amount) }
+    ensures { IfOk result (λ bar. bar_parts bar ≡ rule_bar survey.now counts.now amount) }
 {
     Ok(OwnBar {
         label: rule_label(alloc, survey, amount.number)?,
@@ -74,7 +78,7 @@ fn rule_bar(
     })
 }
 
-// The number of a rule, from 1, and the rule.
+// The number of a rule, from 1, and the rule, such as `2: Costs >= 0`. `number` is from 0.
 fn rule_label(alloc: Global, survey: &Survey, number: u32) -> Result<Vec<u8>, OutOfMemory>
     ensures { IfOk result (λ label. label.items ≡ rule_label survey.now number) }
 {
@@ -85,7 +89,7 @@ fn rule_label(alloc: Global, survey: &Survey, number: u32) -> Result<Vec<u8>, Ou
     Ok(label)
 }
 
-// The rule, as it stands in the rule file; no byte where there is none of this number.
+// The rule of this number, from 0, as it stands in the rule file; no byte where there is none.
 fn rule_words(alloc: Global, survey: &Survey, number: usize) -> Result<Vec<u8>, OutOfMemory>
     ensures { IfOk result (λ words. words.items ≡ rule_words survey.now.fields (slice_get survey.now.rules number)) }
 {
@@ -95,7 +99,8 @@ fn rule_words(alloc: Global, survey: &Survey, number: usize) -> Result<Vec<u8>, 
     }
 }
 
-// How many records broke the rule of this number, and at how many it could not be tried.
+// How many records broke the rule of this number, from 0, and at how many it could not be tried. No
+// parts where there is no such rule.
 fn break_parts(alloc: Global, counts: &[RuleCount], number: usize) -> Result<Vec<u64>, OutOfMemory>
     ensures { IfOk result (λ parts. parts.items ≡ break_parts (slice_get counts.now number)) }
 {

@@ -1,14 +1,18 @@
-//! How a section begins.
+//! How a section begins. In contracts, `added` says what content is put last in the page, and `opened`
+//! which element is open then.
 ghost use Rattle.std.specs.Prelude.{◌≡◌, [], OnOk};
 ghost use Rattle.page_markup.specs.OpenPages.{added, opened};
-ghost use Rattle.page_markup.specs.Trees.Content.{Element, Nothing, Words};
+ghost use Rattle.page_markup.specs.Trees.Content.{Nothing};
 ghost use Rattle.page_markup.specs.declared.tag.Tag.TheVariants.{Section};
-ghost use Rattle.page_sections.specs.Sections.{heading_content, note_content};
+ghost use Rattle.page_sections.specs.Sections.{heading_content};
 
 use foundation::OutOfMemory;
+use page_figures::push_words;
 use page_markup::{Attribute, PageWriter, Tag, Value};
 
-/// Opens a section, and adds its heading and its note.
+const OF_NOTE: &[(Attribute, Value)] = &[(Attribute::Class, Value::Words(b"note"))];
+
+/// Opens a section, which the caller closes, and adds its heading and its note.
 pub(crate) fn open_section(
     page: &mut PageWriter,
     heading: &[u8],
@@ -17,24 +21,6 @@ pub(crate) fn open_section(
     ensures { OnOk result (page.new ≡ added (heading_content heading.now note.now Nothing) (opened Section [] page.old)) }
 {
     page.open(Tag::Section, &[])?;
-    push_element(page, Tag::Heading2, heading)?;
-    push_note(page, note)
-}
-
-// Adds a note.
-fn push_note(page: &mut PageWriter, note: &[u8]) -> Result<(), OutOfMemory>
-    ensures { OnOk result (page.new ≡ added (note_content note.now Nothing) page.old) }
-{
-    page.open(Tag::Paragraph, &[(Attribute::Class, Value::Words(b"note"))])?;
-    page.text(note)?;
-    page.close()
-}
-
-/// Adds an element without attributes that holds these words.
-pub(crate) fn push_element(page: &mut PageWriter, tag: Tag, words: &[u8]) -> Result<(), OutOfMemory>
-    ensures { OnOk result (page.new ≡ added (Element tag [] (Words words.now Nothing) Nothing) page.old) }
-{
-    page.open(tag, &[])?;
-    page.text(words)?;
-    page.close()
+    push_words(page, Tag::Heading2, &[], heading)?;
+    push_words(page, Tag::Paragraph, OF_NOTE, note)
 }

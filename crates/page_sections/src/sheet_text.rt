@@ -4,7 +4,8 @@ ghost use Rattle.page_sections.specs.GreatestSection.{released_text, text_in};
 
 use record_text::{Sheet, Texts};
 
-/// The bytes of a field in the row of this number, none where there is no such row. No memory.
+/// The bytes of a field in the row of the number `row`, from 0; no byte where there is no such row. No
+/// memory.
 pub(crate) fn text_in(sheet: &Sheet, field: u32, row: usize) -> &[u8]
     ensures { result.now ≡ text_in sheet.now field row }
 {
@@ -14,7 +15,7 @@ pub(crate) fn text_in(sheet: &Sheet, field: u32, row: usize) -> &[u8]
     text_at(sheet.raw(row as u32), column(sheet, field))
 }
 
-// The text of a column, no byte where there is none.
+// The text of a column, from 0; no byte where there is no such column.
 fn text_at(texts: &Texts, column: u32) -> &[u8]
     ensures { result.now ≡ slice_index_or texts.now column [] }
 {
@@ -24,7 +25,7 @@ fn text_at(texts: &Texts, column: u32) -> &[u8]
     texts.get(column as usize)
 }
 
-// The column of a field, the first where there is no such field.
+// The column of a field, from 0. It is 0 where there is no such field.
 fn column(sheet: &Sheet, field: u32) -> u32
     ensures { result ≡ slice_index_or sheet.now.columns field 0 }
 {
@@ -34,8 +35,9 @@ fn column(sheet: &Sheet, field: u32) -> u32
     }
 }
 
-/// The bytes of a field in the released row of the record of this number, none where it was not released: row k of the released file is
-/// the k-th of the released records. No memory.
+/// The bytes of a field in the released row of the record of the number `number`, from 0; no byte where
+/// it was not released. `records` are the numbers of the released records, in order: row k of the
+/// released file is the k-th of them. No memory.
 pub(crate) fn released_text<'a>(
     released: &'a Sheet,
     records: &[u32],
@@ -50,7 +52,7 @@ pub(crate) fn released_text<'a>(
     }
 }
 
-// The place of a number among others.
+// The place of a number among others, from 0. None where it is none of them.
 fn place_of(numbers: &[u32], number: u32) -> Option<usize>
     ensures { result ≡ position (λ (n : ℕ). n == number) numbers.now }
 {

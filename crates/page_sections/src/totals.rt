@@ -1,4 +1,5 @@
-//! The totals of a numerical field's values.
+//! The totals of a numerical field's values. In contracts, `added` says what content is put last in the
+//! page's innermost open element. `entry_of` is what definitions see of a cell.
 ghost use Rattle.std.specs.Prelude.{◌≡◌, IfOk, OnOk, map};
 ghost use Rattle.page_markup.specs.OpenPages.{added};
 ghost use Rattle.page_figures.specs.Tables.{entry_of};
@@ -11,7 +12,8 @@ use page_markup::PageWriter;
 use release_figures::NumberValues;
 use std::alloc::Global;
 
-/// Adds the table of the totals.
+/// Adds the table of the totals before and after: the sum, how many values are none, and how many are in
+/// no bin.
 pub(crate) fn push_totals(
     alloc: Global,
     page: &mut PageWriter,
@@ -25,7 +27,7 @@ pub(crate) fn push_totals(
     push_table(page, b"Totals", &[b"", b"before", b"after"], &rows)
 }
 
-// The rows of the table, with the words of the sums.
+// The rows of the table. `before` and `after` are the words of the sums.
 fn total_rows<'a>(
     alloc: Global,
     numbers: &NumberValues,
@@ -44,7 +46,7 @@ fn total_rows<'a>(
     Ok(vec![in alloc; sum, none, beyond]?)
 }
 
-// A row of two counts.
+// A row of two counts, with this label.
 fn count_row<'a>(
     alloc: Global,
     label: &'a [u8],
@@ -60,7 +62,7 @@ fn count_row<'a>(
     ]?)
 }
 
-// A sum, where it stayed in range.
+// A sum in words: the number, or `past 128 bits` where it left the range.
 fn sum_words(alloc: Global, sum: &Option<Fraction>) -> Result<Vec<u8>, OutOfMemory>
     ensures { IfOk result (λ words. words.items ≡ sum_words sum.now) }
 {

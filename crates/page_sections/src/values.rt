@@ -1,20 +1,21 @@
-//! The values of the fields before and after.
+//! The section on the values of the fields before and after. In contracts, `added` says what content is
+//! put last in the page's innermost open element. `i` is everywhere the number of a field, from 0.
 ghost use Rattle.std.specs.Prelude.{◌≡◌, ◌++◌, codes, IfOk, OnOk, map, slice_get};
 ghost use Rattle.edit_language.specs.Meaning.{field_codes, kind_codes};
 ghost use Rattle.page_markup.specs.OpenPages.{added};
 ghost use Rattle.page_figures.specs.Sums.{plus};
-ghost use Rattle.page_sections.specs.Sections.{histogram_content, own_parts};
+ghost use Rattle.page_sections.specs.Sections.{histogram_content, bar_parts};
 ghost use Rattle.page_sections.specs.ValueSection.{bin_description, code_description, field_values, numbers_content, shown_values};
 ghost use Rattle.page_sections.specs.ValueSection.{value_figure, value_section, value_series, values_from};
 
 use crate::fields::name_at;
 use crate::own_bar::{OwnBar, push_own_histogram};
-use crate::section::{open_section, push_element};
+use crate::section::open_section;
 use crate::totals::push_totals;
 use crate::value_bars::{bin_bars, code_bars};
 use edit_model::{Field, Kind, Name};
 use foundation::OutOfMemory;
-use page_figures::Figure;
+use page_figures::{Figure, push_words};
 use page_markup::{PageWriter, Tag};
 use release_figures::{FieldValues, NumberValues};
 use std::alloc::Global;
@@ -43,7 +44,7 @@ pub(crate) fn push_values(
     page.close()
 }
 
-// Adds what is shown of each field.
+// Adds what is shown of each field, in declared order.
 fn push_fields(
     alloc: Global,
     page: &mut PageWriter,
@@ -68,11 +69,11 @@ fn push_field(
 ) -> Result<(), OutOfMemory>
     ensures { OnOk result (page.new ≡ added (field_values fields.now i values.now) page.old) }
 {
-    push_element(page, Tag::Heading3, name_at(fields, i))?;
+    push_words(page, Tag::Heading3, &[], name_at(fields, i))?;
     push_shown(alloc, page, fields, i, values)
 }
 
-// Adds what is shown of a field.
+// Adds what is shown of a field: bins and totals of a numerical one, or the codes of a categorical one.
 fn push_shown(
     alloc: Global,
     page: &mut PageWriter,
@@ -92,7 +93,7 @@ fn push_shown(
     }
 }
 
-// Adds what is shown of a numerical field.
+// Adds what is shown of a numerical field: its bins, and then its totals.
 fn push_numbers(
     alloc: Global,
     page: &mut PageWriter,
@@ -107,7 +108,7 @@ fn push_numbers(
     push_totals(alloc, page, numbers)
 }
 
-// Adds the bins of a numerical field.
+// Adds the histogram of a numerical field: the bins, each named by its lower end.
 fn push_bins(
     alloc: Global,
     page: &mut PageWriter,
@@ -116,7 +117,7 @@ fn push_bins(
     bins: &[OwnBar],
 ) -> Result<(), OutOfMemory>
     ensures { OnOk result (page.new ≡ added
-        (histogram_content (value_figure name.now i bin_description (codes "from")) value_series (map own_parts bins.now)) page.old) }
+        (histogram_content (value_figure name.now i bin_description (codes "from")) value_series (map bar_parts bins.now)) page.old) }
 {
     let title = title_of(alloc, name)?;
     let figure = Figure {
@@ -128,7 +129,7 @@ fn push_bins(
     push_own_histogram(alloc, page, &figure, SERIES, bins)
 }
 
-// Adds the bins of a categorical field.
+// Adds the histogram of a categorical field: a bin for each code, and one for the values that are none.
 fn push_codes(
     alloc: Global,
     page: &mut PageWriter,
@@ -137,7 +138,7 @@ fn push_codes(
     bins: &[OwnBar],
 ) -> Result<(), OutOfMemory>
     ensures { OnOk result (page.new ≡ added
-        (histogram_content (value_figure name.now i code_description (codes "code")) value_series (map own_parts bins.now)) page.old) }
+        (histogram_content (value_figure name.now i code_description (codes "code")) value_series (map bar_parts bins.now)) page.old) }
 {
     let title = title_of(alloc, name)?;
     let figure = Figure {
@@ -149,7 +150,7 @@ fn push_codes(
     push_own_histogram(alloc, page, &figure, SERIES, bins)
 }
 
-// The title of a field's figure.
+// The title of a field's figure: `Values of ` and the name.
 fn title_of(alloc: Global, name: &[u8]) -> Result<Vec<u8>, OutOfMemory>
     ensures { IfOk result (λ title. title.items ≡ codes "Values of " ++ name.now) }
 {
@@ -158,7 +159,7 @@ fn title_of(alloc: Global, name: &[u8]) -> Result<Vec<u8>, OutOfMemory>
     Ok(title)
 }
 
-// The number of a field's figure.
+// The number of a field's figure, from 10 on, since the other figures of the page have lower ones.
 fn id_of(i: usize) -> u64
     ensures { result ≡ plus i 10 }
 {
@@ -175,7 +176,7 @@ fn codes_at(fields: &[Field], i: usize) -> &[Name]
     }
 }
 
-// The codes of a field of this kind.
+// The codes of a field of this kind; none where it is numerical.
 fn codes_of(kind: &Kind) -> &[Name]
     ensures { result.now ≡ kind_codes kind.now }
 {

@@ -1,4 +1,5 @@
-//! What the changes of records weigh.
+//! The section on what the changes of records weigh. In contracts, `added` says what content is put last
+//! in the page's innermost open element.
 ghost use Rattle.std.specs.Prelude.{◌≡◌, OnOk};
 ghost use Rattle.page_markup.specs.OpenPages.{added};
 ghost use Rattle.page_sections.specs.WeightSection.{weight_section};
@@ -21,7 +22,7 @@ const FIGURE: Figure = Figure {
 const NOTE: &[u8] =
     b"What the changes of a record weigh is the sum of the weights of its changed fields.";
 
-/// Adds the section on what the changes of records weigh.
+/// Adds the section on what the changes of records weigh: an upright bar for each of these weights.
 pub(crate) fn push_weights(
     alloc: Global,
     page: &mut PageWriter,

@@ -1,3 +1,5 @@
+//! What can be wrong with a reasons file, and with a line of it. The faults stand in the order in which
+//! they are told, with the words for each.
 use foundation::OutOfMemory;
 use record_text::TableFault;
 use std::alloc::AllocFailed;
@@ -18,7 +20,8 @@ pub enum LineFault {
     Donor,
     /// The detail of a change is none of `donor`, `nearest` and `default`.
     Detail,
-    /// The line does not stand in the order of the records and of their fields, or a record that is left out has another line.
+    /// The line does not stand in the order of the records and of their fields, or a record that is left
+    /// out has another line.
     Order,
 }
 
@@ -28,6 +31,7 @@ impl fmt::Display for LineFault {
 
     ghost output = { λ fault. Some (line_fault_text fault) };
 
+    // The fault as the end of a sentence whose subject is the line.
     fn fmt<W: fmt::Write>(&self, f: &mut fmt::Formatter<W>) -> fmt::Result {
         f.write_str(match self {
             LineFault::Record => "does not have the number of a record",
@@ -45,15 +49,16 @@ impl fmt::Display for LineFault {
 
 impl error::Error for LineFault {}
 
-/// Why a reasons file was not read. A text that is no table comes before a faulty header, and that before a faulty line; of the lines
-/// the first faulty one decides.
+/// Why a reasons file was not read. A text that is no table comes before a faulty header, and that
+/// before a faulty line; of the lines the first faulty one decides.
 #[derive(Clone, Copy, Debug, PartialEq, Eq)]
 pub enum ReasonFault {
     /// The text is no table.
     Table { fault: TableFault },
     /// The header is not that of a reasons file.
     Header,
-    /// The line of this number, from 0 behind the header, is the first that is faulty, and this is wrong with it.
+    /// The line of this number, from 0 behind the header, is the first that is faulty, and this is wrong
+    /// with it.
     Line { line: u32, fault: LineFault },
     /// Memory was refused.
     OutOfMemory,
@@ -65,6 +70,7 @@ impl fmt::Display for ReasonFault {
 
     ghost output = { λ fault. Some (fault_text fault) };
 
+    // The fault as a sentence. The lines behind the header are counted from 1 in it.
     fn fmt<W: fmt::Write>(&self, f: &mut fmt::Formatter<W>) -> fmt::Result {
         match self {
             ReasonFault::Table { fault } => write!(f, "the reasons file was not read: {fault}"),
@@ -91,6 +97,7 @@ impl From<OutOfMemory> for ReasonFault {
 
     ghost from_gives = { λ _ fault. fault ≡ faults.OutOfMemory };
 
+    // A call below was refused memory: the reading ends with `OutOfMemory`.
     fn from(_refused: OutOfMemory) -> Self {
         ReasonFault::OutOfMemory
     }
@@ -102,6 +109,7 @@ impl<T: Drop> From<AllocFailed<T>> for ReasonFault {
 
     ghost from_gives = { λ _ fault. fault ≡ faults.OutOfMemory };
 
+    // A list was refused memory to grow: the reading ends with `OutOfMemory`.
     fn from(_refused: AllocFailed<T>) -> Self {
         ReasonFault::OutOfMemory
     }
@@ -113,6 +121,7 @@ impl From<TableFault> for ReasonFault {
 
     ghost from_gives = { λ fault told. told ≡ told_of_table fault };
 
+    // The fault of a text that is no table; memory that was refused is told as such.
     fn from(fault: TableFault) -> Self {
         match fault {
             TableFault::OutOfMemory => ReasonFault::OutOfMemory,

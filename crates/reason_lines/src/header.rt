@@ -1,4 +1,4 @@
-//! The header of a reasons file.
+//! The header of a reasons file, and the comparison of texts by which lines are told.
 ghost use Rattle.std.specs.Prelude.{◌↔◌, ◌≡◌, ◌<◌, IsTrue, length};
 ghost use Rattle.std.specs.Str.{bytes_eq};
 ghost use Rattle.reason_lines.specs.ReasonFiles.{reasons_header};
@@ -20,7 +20,7 @@ pub(crate) fn is_header(texts: &Texts) -> bool
         && has_text(texts, 6, b"detail")
 }
 
-/// Whether the text in a column, from 0, is this one.
+/// Whether the text in a column, from 0, is `text`.
 pub(crate) fn has_text(texts: &Texts, column: usize, text: &[u8]) -> bool
     requires { column < length texts.now }
     ensures { result ≡ bytes_eq (text_in texts.now column) text.now }

@@ -1,5 +1,6 @@
-//! Reasons files, read back: which field of which record was changed and how, and which records were left out and why. Begin with
-//! `specs/ReasonLines.antt`, which says what one line says, and `specs/ReasonFiles.antt`; in the code with [`read_reasons`].
+//! Reasons files, read back: which field of which record was changed and how, and which records were
+//! left out and why. Begin with `specs/ReasonLines.antt`, which says what one line says, and
+//! `specs/ReasonFiles.antt`; in the code with [`read_reasons`].
 #![tactic(auto)]
 
 mod entry;

@@ -1,4 +1,7 @@
-//! A line, and its place behind another.
+//! One line of a reasons file: what it says, or what is wrong with it, by itself or behind the line
+//! before it. A line has 7 texts: record, cause, field, before, after, donor and detail. `rows` is
+//! everywhere how many records the record file has. In contracts, `line_fault` is what is wrong with a
+//! line behind the one before it, and None where nothing is.
 ghost use Rattle.std.specs.Prelude.{◌≡◌, ◌<◌, ◌≤◌, IfErr, IfOk, IfSome, None, Ok, Some, if◌then◌else◌, length};
 ghost use Rattle.reason_lines.specs.ReasonLines.{change_of, entry_of, field_named, left_out_of, line_fault, may_follow, place_of, record_of};
 
@@ -12,7 +15,9 @@ use record_text::Texts;
 /// The most fields of a survey.
 const MOST_FIELDS: u32 = 64;
 
-/// What the line says, where it may stand behind one that says `before`, or behind none.
+/// What the line of these texts says, where it may stand behind a line that says `before`. It is the
+/// first line where `before` is None. A line that is faulty by itself is told so, and not as one out of
+/// order (`LineFault::Order`).
 pub(crate) fn next_entry(
     survey: &Survey,
     rows: u32,
@@ -32,7 +37,8 @@ pub(crate) fn next_entry(
     }
 }
 
-// Whether a line that says this may stand behind one that says that, or behind none.
+// Whether a line that says `entry` may stand behind one that says `before`. Where `before` is None it is
+// the first line, and it may.
 fn stands_behind(survey: &Survey, before: Option<Entry>, entry: Entry) -> bool
     ensures { line_fault survey.now.fields before (Ok entry) ≡ (if result then None else Some LineFault.Order) }
 {
@@ -42,7 +48,8 @@ fn stands_behind(survey: &Survey, before: Option<Entry>, entry: Entry) -> bool
     }
 }
 
-// Whether a line that says `second` may stand behind one that says `first`.
+// Whether a line that says `second` may stand behind one that says `first`. Either its record comes
+// later, or both are changes of one record, and its field comes later.
 fn may_follow(survey: &Survey, first: Entry, second: Entry) -> bool
     ensures { result ≡ may_follow survey.now.fields first second }
 {
@@ -56,7 +63,7 @@ fn may_follow(survey: &Survey, first: Entry, second: Entry) -> bool
     }
 }
 
-// The record of which a line speaks.
+// The number of the record of which a line speaks, from 0.
 fn record_of(entry: Entry) -> u32
     ensures { result ≡ record_of entry }
 {
@@ -66,7 +73,8 @@ fn record_of(entry: Entry) -> u32
     }
 }
 
-// The place of the field in the order of a record's lines: numerical fields come before categorical ones.
+// The place of the field in the order of a record's lines. `MOST_FIELDS` is added for a categorical
+// field, so that these come behind all numerical ones.
 fn place_of(survey: &Survey, field: u32) -> u64
     ensures { result ≡ place_of survey.now.fields field }
 {
@@ -76,7 +84,9 @@ fn place_of(survey: &Survey, field: u32) -> u64
     }
 }
 
-// What the line says, or what is wrong with it.
+// What the line of these texts says. `LineFault::Record` where its first text is not the number of one
+// of `rows` records. A line of the cause `changed` is then read by `change_of`, and any other by
+// `left_out_of`.
 fn entry_of(survey: &Survey, rows: u32, texts: &Texts) -> Result<Entry, LineFault>
     requires { length texts.now ≡ 7 }
     ensures { result ≡ entry_of survey.now.fields rows texts.now }
@@ -91,7 +101,10 @@ fn entry_of(survey: &Survey, rows: u32, texts: &Texts) -> Result<Entry, LineFaul
     }
 }
 
-// What the line of a changed field of the record says.
+// What the line of a changed field of this record says: the field, how its value was found, and the
+// donor, if there is one. Its faults, in order: no field has the name; the donor is none of the `rows`
+// records, or the record itself; the detail is unknown. The values before and after the change, in the
+// columns 3 and 4 from 0, are not looked at.
 fn change_of(survey: &Survey, rows: u32, record_no: u32, texts: &Texts) -> Result<Entry, LineFault>
     requires { length texts.now ≡ 7 }
     ensures { result ≡ change_of survey.now.fields rows record_no texts.now }
@@ -113,7 +126,7 @@ fn change_of(survey: &Survey, rows: u32, record_no: u32, texts: &Texts) -> Resul
     }))
 }
 
-// The field of this name.
+// The number of the field of this name, from 0. None where no field has it.
 fn field_named(fields: &[Field], name: &[u8]) -> Option<u32>
     requires { length fields.now ≤ 64 }
     ensures { result ≡ field_named fields.now name.now }
@@ -124,6 +137,7 @@ fn field_named(fields: &[Field], name: &[u8]) -> Option<u32>
     }
 }
 
+// The place of the field of this name in the list, from 0. None where no field has it.
 fn field_place(fields: &[Field], name: &[u8]) -> Option<usize>
     ensures place { result ≡ field_named fields.now name.now }
     ensures within { IfSome result (λ place. place < length fields.now) }
@@ -133,7 +147,8 @@ fn field_place(fields: &[Field], name: &[u8]) -> Option<usize>
         .position(|field| field.name.as_bytes() == name)
 }
 
-// What the line of the record says, where it is left out.
+// What the line of this record says, where the record is left out: the cause. It is a fault if the cause
+// is no known word, or a field, a value or a donor stands in the line. The detail may say anything.
 fn left_out_of(record_no: u32, texts: &Texts) -> Result<Entry, LineFault>
     requires { length texts.now ≡ 7 }
     ensures { result ≡ left_out_of record_no texts.now }

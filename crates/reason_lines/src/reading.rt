@@ -1,4 +1,7 @@
-//! The lines of a reasons file.
+//! A reasons file, read as a whole: its table, its header, and its lines in order. In contracts,
+//! `AreReasons` says that the bytes are a reasons file with these reasons, and `IsReasonFault` tells
+//! what is first wrong with them. `AreWithin` says that all numbers of records and fields are among
+//! those that there are, and that no donor is the record itself.
 ghost use Rattle.std.specs.Prelude.{◌≡◌, ◌≢◌, ◌≤◌, ◌^◌, ◌-◌, ◌++◌, All, IfErr, IfOk, None, OnOk, Ok, Some, length};
 ghost use Rattle.std.specs.List.Sorted.{IsNonDecreasingBy};
 ghost use Rattle.record_text.specs.Tables.{most_table_rows};
@@ -25,8 +28,9 @@ pub struct Reasons {
     pub left_out: Sequence<LeftOut>,
 }
 
-/// Reads the reasons file of an edit of `rows` records of the survey. The fault is the first in the order of [`ReasonFault`]. The bytes
-/// say nothing else, and have no other fault.
+/// Reads the reasons file of an edit of `rows` records of the survey. Where it is faulty, the fault is
+/// the first in the order of [`ReasonFault`]. What is read is all that the bytes say (`only`), and they
+/// have no other fault (`first`).
 pub fn read_reasons(
     alloc: Global,
     survey: &Survey,
@@ -46,7 +50,8 @@ pub fn read_reasons(
     read_file(alloc, survey, rows, bytes)
 }
 
-// The table, its header, and its lines.
+// Reads the bytes as a table, compares its header, and reads its lines; the first of these that fails
+// tells the fault. `rows` is how many records the record file has.
 fn read_file(
     alloc: Global,
     survey: &Survey,
@@ -63,7 +68,9 @@ fn read_file(
     read_lines(alloc, survey, rows, table.rows())
 }
 
-// What the lines say.
+// What the lines say, each behind the one before it; each has 7 texts. `rows` is how many records the
+// record file has. The first faulty line ends the reading, and is told by its number, from 0 behind the
+// header.
 fn read_lines(
     alloc: Global,
     survey: &Survey,
@@ -97,7 +104,7 @@ fn read_lines(
     })
 }
 
-// Puts what a line says at the end of its list.
+// Puts what a line says at the end of its list: that of the changes, or that of the records left out.
 fn note(
     changes: &mut Vec<Change>,
     left_out: &mut Vec<LeftOut>,

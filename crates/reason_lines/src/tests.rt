@@ -9,7 +9,7 @@ use std::test::Fail;
 /// How many records the record file has.
 const ROWS: u32 = 12;
 
-// A field of this name.
+// A field of this name and kind.
 fn field_of(name: &[u8], kind: Kind) -> Result<Field, Fail> {
     Ok(Field {
         name: Name::new(name).ok_or("no name")?,
@@ -72,6 +72,7 @@ const LEFT_OUT: &[LeftOut] = &[
     },
 ];
 
+// The file of changes and of records left out is read as the two lists.
 #[test]
 fn changes_and_records_left_out_are_read(rt: HostRuntime) -> Result<(), Fail> {
     let survey = survey_of(rt.alloc())?;
@@ -117,7 +118,7 @@ const FAULTY: &[(&[u8], u32, LineFault)] = &[
     ),
 ];
 
-// The fault of a file with these lines.
+// The fault of a reasons file with these lines behind its header, if it has one.
 fn fault_of(alloc: Global, lines: &[u8]) -> Result<Option<ReasonFault>, Fail> {
     let survey = survey_of(alloc)?;
     let mut bytes = Vec::from_slice(alloc, b"record,cause,field,before,after,donor,detail\n")?;
@@ -125,6 +126,7 @@ fn fault_of(alloc: Global, lines: &[u8]) -> Result<Option<ReasonFault>, Fail> {
     Ok(read_reasons(alloc, &survey, ROWS, &bytes).err())
 }
 
+// Each faulty file of the table is told by its first faulty line, from 0, and what is wrong with it.
 #[test]
 fn a_faulty_line_is_told(rt: HostRuntime) -> Result<(), Fail> {
     for (lines, line, fault) in FAULTY {
@@ -135,6 +137,8 @@ fn a_faulty_line_is_told(rt: HostRuntime) -> Result<(), Fail> {
     Ok(())
 }
 
+// A file whose second line has six texts is no table, which is told before the faulty record in its first
+// line.
 #[test]
 fn a_line_of_another_length_is_told_before_faulty_lines(rt: HostRuntime) -> Result<(), Fail> {
     let found = fault_of(rt.alloc(), b"0,budget,,,,,\n2,budget,,,,\n")?;

@@ -1,4 +1,4 @@
-//! The texts of a line, one by one.
+//! The texts of a line, one by one: each is known by its one spelling, or not at all.
 ghost use Rattle.std.specs.Prelude.{◌≡◌, ◌≢◌, ◌<◌, ◌^◌, ℕ, IfNone, IfSome};
 ghost use Rattle.std.specs.Fmt.{decimal};
 ghost use Rattle.std.specs.Str.{bytes_eq};
@@ -7,7 +7,8 @@ ghost use Rattle.reason_lines.specs.ReasonLines.{cause_named, donor_named, how_n
 use crate::entry::{Cause, How};
 use itoa::Buffer;
 
-/// The record, of the first `rows`, whose number from 1 is printed so.
+/// The record, from 0, whose number from 1 the text is, of the first `rows` records. None where the text
+/// is no number as it is printed, or that of no such record.
 pub(crate) fn record_named(rows: u32, text: &[u8]) -> Option<u32>
     ensures { result ≡ record_named rows text.now }
 {
@@ -21,7 +22,8 @@ pub(crate) fn record_named(rows: u32, text: &[u8]) -> Option<u32>
     Some(number - 1)
 }
 
-// The number that is printed so.
+// The number that is printed so, and None where none is. The number that is read is printed again and
+// compared, since `parse` also takes a plus sign and zeros in front.
 fn number_of(text: &[u8]) -> Option<u32>
     ensures some { IfSome result (λ n. text.now ≡ decimal n) }
     ensures none { IfNone result ((n : ℕ) → n < 2 ^ 32 → text.now ≢ decimal n) }
@@ -40,7 +42,7 @@ fn number_of(text: &[u8]) -> Option<u32>
     }
 }
 
-/// How a value was found.
+/// How a value was found, by the detail's word. None for any other text.
 pub(crate) fn how_named(text: &[u8]) -> Option<How>
     ensures { result ≡ how_named text.now }
 {
@@ -55,7 +57,7 @@ pub(crate) fn how_named(text: &[u8]) -> Option<How>
     }
 }
 
-/// Why a record was left out.
+/// Why a record was left out, by the cause's word. None for any other text.
 pub(crate) fn cause_named(text: &[u8]) -> Option<Cause>
     ensures { result ≡ cause_named text.now }
 {
@@ -81,7 +83,9 @@ fn is_word(text: &[u8], word: &[u8]) -> bool
     text == word
 }
 
-/// The donor of the record, of the first `rows`: another record, or none where nothing is said. None where it is neither.
+/// The donor of the record `record_no`, as a text of the donor's column says it. `Some(None)` is no
+/// donor, where the text is empty. None is a faulty text: it names no record of the first `rows`, or the
+/// record itself.
 pub(crate) fn donor_named(rows: u32, record_no: u32, text: &[u8]) -> Option<Option<u32>>
     ensures { result ≡ donor_named rows record_no text.now }
 {

@@ -3,7 +3,6 @@ use Rattle.std.specs.List.{range_with_len}
 use Rattle.std.proofs.lemmas.List.{map-id}
 use Rattle.std.proofs.lemmas.List.FromFn.{map-range_with_len_more}
 use Rattle.edit_model.specs.declared.field.Field.{Field}
-use Rattle.record_text.specs.Sheets.{SheetParts}
 use Rattle.reason_lines.specs.declared.entry.Cause.TheVariants as cause
 use Rattle.reason_lines.specs.declared.entry.Change.{Change}
 use Rattle.reason_lines.specs.declared.entry.LeftOut.{LeftOut}
@@ -12,6 +11,7 @@ use Rattle.page_counts.specs.Records.{changed_count, clean_count, left_out_count
 use Rattle.page_counts.specs.declared.amounts.Amount.{Amount}
 use Rattle.page_counts.specs.declared.records.RecordCounts.{RecordCounts}
 use Rattle.release_figures.specs.Figures.{AreFieldValues, AreValues, column_after, column_before, numbered, record_counts}
+use Rattle.release_figures.specs.Releases.{ReleaseParts}
 use Rattle.release_figures.specs.declared.figures.FieldValues.{FieldValues}
 
 -- What is counted, and what is counted with one place more.
@@ -58,15 +58,15 @@ numbered_more i j [] size place = ap (λ (n : ℕ). record { number = n; size = 
 numbered_more i j (first ∷ sizes) size place =
     ap (λ (amounts : List Amount). record { number = i; size = first } ∷ amounts) (numbered_more (suc i) j sizes size (omega (arith, place)))
 
-module _ (records released : SheetParts) (reasons : Reasons) where
+module _ (release : ReleaseParts) where
   -- the values of a field more, behind those of the fields from number f on
   pub values_more : (f j : ℕ) (fields : List Field) (field : Field) (values : List FieldValues) (value : FieldValues) → f + length fields ≡ j
-      → AreValues records released reasons f fields values
-      → AreFieldValues field.kind (column_before records reasons j) (column_after released j) value
-      → AreValues records released reasons f (fields ++ field ∷ []) (values ++ value ∷ [])
+      → AreValues release f fields values
+      → AreFieldValues field.kind (column_before release j) (column_after release j) value
+      → AreValues release f (fields ++ field ∷ []) (values ++ value ∷ [])
   values_more f j [] field [] value place are is =
       let same : j ≡ f = omega (arith, place) in
-      (subst (λ (n : ℕ). AreFieldValues field.kind (column_before records reasons n) (column_after released n) value) same is, tt)
+      (subst (λ (n : ℕ). AreFieldValues field.kind (column_before release n) (column_after release n) value) same is, tt)
   values_more f j [] field (first ∷ values) value place are is = absurd are
   values_more f j (one ∷ fields) field [] value place are is = absurd are
   values_more f j (one ∷ fields) field (first ∷ values) value place are is =

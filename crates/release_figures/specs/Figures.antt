@@ -1,15 +1,13 @@
--- What the page of a release says, by the survey, the records as they came and as they were released, and the reasons.
+-- What the page of a release says.
 use Rattle.std.specs.Prelude.{◌≡◌, ℕ, suc, ◌+◌, List, [], ◌∷◌, Option, Some, None, length, map}
 use Rattle.std.specs.List.{count_by, range_with_len}
 use Rattle.std.specs.Option.{option_map}
 use Rattle.fraction128.specs.Formulas.{ratio_of}
-use Rattle.edit_model.specs.Parts.{SurveyParts}
 use Rattle.edit_model.specs.Rows.{is_bad}
 use Rattle.edit_model.specs.declared.field.Field.{Field}
 use Rattle.edit_model.specs.declared.field.Kind.{Kind}
 use Rattle.edit_model.specs.declared.field.Kind.TheVariants as kind
 use Rattle.edit_model.specs.declared.value.Value.{Value}
-use Rattle.record_text.specs.Sheets.{SheetParts}
 use Rattle.reason_lines.specs.declared.entry.Cause.TheVariants as cause
 use Rattle.reason_lines.specs.declared.entry.Change.{Change}
 use Rattle.reason_lines.specs.declared.entry.How.TheVariants as how
@@ -20,7 +18,7 @@ use Rattle.page_counts.specs.Columns.{code_counts, column_of}
 use Rattle.page_counts.specs.Donors.{donors_of}
 use Rattle.page_counts.specs.Fields.{change_count}
 use Rattle.page_counts.specs.Numbers.{sum_of}
-use Rattle.page_counts.specs.Records.{changed_count, clean_count, left_out_count, released_rows}
+use Rattle.page_counts.specs.Records.{changed_count, clean_count, left_out_count}
 use Rattle.page_counts.specs.Rules.{is_number, rule_count}
 use Rattle.page_counts.specs.Weights.{weights_of}
 use Rattle.page_counts.specs.declared.amounts.Amount.{Amount}
@@ -29,6 +27,7 @@ use Rattle.page_counts.specs.declared.codes.CodeCounts.{CodeCounts}
 use Rattle.page_counts.specs.declared.fields.FieldCount.{FieldCount}
 use Rattle.page_counts.specs.declared.records.RecordCounts.{RecordCounts}
 use Rattle.page_counts.specs.declared.rules.RuleCount.{RuleCount}
+use Rattle.release_figures.specs.Releases.{ReleaseParts, released_numbers}
 use Rattle.release_figures.specs.declared.figures.FieldValues.{FieldValues}
 use Rattle.release_figures.specs.declared.figures.FieldValues.TheVariants.{Codes, Numbers}
 use Rattle.release_figures.specs.declared.figures.NumberFigures.{NumberFigures}
@@ -103,30 +102,34 @@ AreFieldValues (kind.Code codes) before after (Codes first second) =
 AreFieldValues _ before after values = ⊥
 
 -- the values of a field in the records that were released, as they came, and as they were released
-abbrev pub column_before : SheetParts → Reasons → ℕ → List Value
-column_before records reasons f = column_of records.rows f (released_rows (length records.rows) reasons.left_out)
+abbrev pub column_before : ReleaseParts → ℕ → List Value
+column_before release f = column_of release.records.rows f (released_numbers release)
 
-abbrev pub column_after : SheetParts → ℕ → List Value
-column_after released f = column_of released.rows f (range_with_len 0 (length released.rows))
+abbrev pub column_after : ReleaseParts → ℕ → List Value
+column_after release f = column_of release.released.rows f (range_with_len 0 (length release.released.rows))
 
 -- the same of the fields from number f on
-abbrev pub AreValues : SheetParts → SheetParts → Reasons → ℕ → List Field → List FieldValues → Type 0
-AreValues records released reasons f [] [] = Unit {0}
-AreValues records released reasons f (field ∷ fields) (values ∷ rest) =
-    AreFieldValues field.kind (column_before records reasons f) (column_after released f) values
-    × AreValues records released reasons (suc f) fields rest
-AreValues records released reasons f _ _ = ⊥
+abbrev pub AreValues : ReleaseParts → ℕ → List Field → List FieldValues → Type 0
+AreValues release f [] [] = Unit {0}
+AreValues release f (field ∷ fields) (values ∷ rest) =
+    AreFieldValues field.kind (column_before release f) (column_after release f) values × AreValues release (suc f) fields rest
+AreValues release f _ _ = ⊥
 
 -- ---- all of it
 
+-- what the changes of each changed record weigh
+abbrev pub release_weights : ReleaseParts → List Amount
+release_weights release = weights_of release.survey.fields (length release.records.rows) release.reasons.changes
+
 -- what the page of a release says. Which bins a histogram has is free, since the page says where each begins, and what is in none.
-pub record AreFigures (survey : SurveyParts) (records released : SheetParts) (reasons : Reasons) (figures : ReleaseFigures) : Type 0 where
-  pub records_counted : figures.records ≡ record_counts (length records.rows) reasons
-  pub fields : figures.fields ≡ map (field_count reasons.changes) (range_with_len 0 (length survey.fields))
+pub record AreFigures (release : ReleaseParts) (figures : ReleaseFigures) : Type 0 where
+  pub records_counted : figures.records ≡ record_counts (length release.records.rows) release.reasons
+  pub released : figures.released ≡ released_numbers release
+  pub fields : figures.fields ≡ map (field_count release.reasons.changes) (range_with_len 0 (length release.survey.fields))
   pub fields_by_changes : AreSorted (map change_total figures.fields) figures.fields_by_changes
-  pub rules : figures.rules ≡ map (rule_count records.rows) survey.rules
+  pub rules : figures.rules ≡ map (rule_count release.records.rows) release.survey.rules
   pub rules_by_breaks : AreSorted (map (λ (count : RuleCount). count.broken) figures.rules) figures.rules_by_breaks
-  pub weights : IsTally (weights_of survey.fields (length records.rows) reasons.changes) figures.weights
-  pub greatest : AreGreatest (weights_of survey.fields (length records.rows) reasons.changes) 20 figures.greatest
-  pub gifts : IsTally (donors_of (length records.rows) reasons.changes) figures.gifts
-  pub values : AreValues records released reasons 0 survey.fields figures.values
+  pub weights : IsTally (release_weights release) figures.weights
+  pub greatest : AreGreatest (release_weights release) 20 figures.greatest
+  pub gifts : IsTally (donors_of (length release.records.rows) release.reasons.changes) figures.gifts
+  pub values : AreValues release 0 release.survey.fields figures.values

@@ -1,4 +1,4 @@
-//! The figures of a release.
+//! The figures of a release: all that its page says.
 use foundation::Sequence;
 use fraction128::Fraction;
 use page_counts::{Amount, Bins, CodeCounts, FieldCount, RecordCounts, RuleCount, SizeCount};
@@ -8,11 +8,14 @@ use page_counts::{Amount, Bins, CodeCounts, FieldCount, RecordCounts, RuleCount,
 pub struct ReleaseFigures {
     /// How many records were clean, changed, and left out by each cause.
     pub records: RecordCounts,
+    /// The numbers of the records that were released: row k of the released file is the k-th of them.
+    pub released: Sequence<u32>,
     /// For each field, in declared order, how often it was changed.
     pub fields: Sequence<FieldCount>,
     /// The fields with the number of their changes, that with the most first.
     pub fields_by_changes: Sequence<Amount>,
-    /// For each rule, in declared order, how many records broke it as they came, and at how many it could not be tried.
+    /// For each rule, in declared order, how many records broke it as they came, and at how many it
+    /// could not be tried.
     pub rules: Sequence<RuleCount>,
     /// The rules with the number of records that broke them, that which most broke first.
     pub rules_by_breaks: Sequence<Amount>,
@@ -20,7 +23,8 @@ pub struct ReleaseFigures {
     pub weights: Sequence<SizeCount>,
     /// The twenty records whose changes weigh most, the heaviest first.
     pub greatest: Sequence<Amount>,
-    /// How many donors gave to so many records, by rising number of records.
+    /// For each number of records that some donor gave to, by rising number, how many donors gave to so
+    /// many.
     pub gifts: Sequence<SizeCount>,
     /// For each field, in declared order, its values in the released records, before and after.
     pub values: Sequence<FieldValues>,

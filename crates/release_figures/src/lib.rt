@@ -1,5 +1,5 @@
-//! All that the page of a release says, counted from its files. What each figure is is stated in `specs/Figures.antt`. Begin with
-//! [`figures_of`] and [`ReleaseFigures`].
+//! All that the page of a release says, counted from its files. What each figure is is stated in
+//! `specs/Figures.antt`. Begin with [`Release`], [`figures_of`] and [`ReleaseFigures`].
 #![tactic(auto)]
 
 mod counting;
@@ -8,8 +8,10 @@ mod figures;
 mod numbered;
 mod range;
 mod ranges;
+mod release;
 mod rules;
 mod values;
 
 pub use counting::figures_of;
 pub use figures::{FieldValues, NumberFigures, NumberValues, ReleaseFigures};
+pub use release::Release;

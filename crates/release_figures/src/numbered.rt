@@ -1,4 +1,5 @@
-//! Sizes of numbered things, such as fields or rules, put in order.
+//! Sizes of numbered things, such as fields or rules, put in order. In contracts, `AreSorted` says that
+//! these are all the sizes, with their numbers, in that order.
 ghost use Rattle.std.specs.Prelude.{◌≡◌, ◌≤◌, ◌^◌, IfOk, length};
 ghost use Rattle.release_figures.specs.Figures.{AreSorted, numbered};
 
@@ -6,7 +7,8 @@ use foundation::OutOfMemory;
 use page_counts::{Amount, greatest_amounts};
 use std::alloc::Global;
 
-/// All the sizes with the numbers of their places, the greatest first, and of equal ones that of the earlier place.
+/// All the sizes with the numbers of their places, from 0: the greatest first, and of equal ones that of
+/// the earlier place.
 pub(crate) fn sorted_sizes(alloc: Global, sizes: &[u128]) -> Result<Vec<Amount>, OutOfMemory>
     requires { length sizes.now ≤ 2 ^ 32 }
     ensures { IfOk result (λ amounts. AreSorted sizes.now amounts.items) }

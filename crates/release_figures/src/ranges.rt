@@ -1,4 +1,5 @@
-//! From where to where a field's numbers reach, and the bins over them.
+//! From where to where a field's numbers reach, and the bins over them. In contracts, `AreBinsOf` says
+//! which bins these are, and `ends_of` has the two ends of a range, or None.
 ghost use Rattle.std.specs.Prelude.{◌≡◌, ◌≤◌, ◌^◌, unsigned_abs};
 ghost use Rattle.std.specs.Int.{int_max, int_min};
 ghost use Rattle.std.specs.List.{list_all};
@@ -15,8 +16,9 @@ const WHOLE_UNIT: i128 = 1000;
 // The least width of bins over other numbers, in thousandths.
 const UNIT: i128 = 1;
 
-/// The bins over the numbers of both columns, from the least to the greatest, and not narrower than 1 where all of them are whole. None
-/// where there is no number, or of none of these the thousandths can be told. No memory.
+/// The bins over the numbers of both columns, from the least to the greatest, and not narrower than 1
+/// where all of them are whole. None where there is no number, or of none of these the thousandths can
+/// be told. No memory.
 pub(crate) fn bins_of(before: &[Value], after: &[Value]) -> Option<Bins>
     ensures { AreBinsOf before.now after.now result }
 {
@@ -24,7 +26,7 @@ pub(crate) fn bins_of(before: &[Value], after: &[Value]) -> Option<Bins>
     Some(bins_over(range.least, range.greatest, unit_of(before, after)))
 }
 
-// The least width of bins over the numbers of both columns.
+// The least width of bins over the numbers of both columns, in thousandths.
 fn unit_of(before: &[Value], after: &[Value]) -> i128
     ensures is { result ≡ unit_over before.now after.now }
     ensures small { unsigned_abs result ≤ 10 ^ 36 }
@@ -53,14 +55,16 @@ fn is_whole(value: &Value) -> bool
     }
 }
 
-// From the least to the greatest of the numbers among the values; where of one of them the thousandths cannot be told, the other alone.
+// From the least to the greatest of the numbers among the values. Where the thousandths of one of the
+// two can't be told, it is the other alone. None where no number is left.
 fn range_of(values: &[Value]) -> Option<Range>
     ensures { AreEndsOf (IsEnd values.now) (ends_of result) }
 {
     joined(point_of(least(values)), point_of(greatest(values)))
 }
 
-// From the number to itself.
+// From the number to itself, in thousandths. None where there is no number, or its thousandths can't be
+// told.
 fn point_of(number: Option<Fraction>) -> Option<Range>
     ensures { ends_of result ≡ point_ends number }
 {
@@ -71,7 +75,7 @@ fn point_of(number: Option<Fraction>) -> Option<Range>
     })
 }
 
-// From the least to the greatest of two ranges.
+// From the least to the greatest of two ranges, or the one that there is. None where there is neither.
 fn joined(one: Option<Range>, other: Option<Range>) -> Option<Range>
     ensures { ends_of result ≡ joined_ends (ends_of one) (ends_of other) }
 {

@@ -9,7 +9,8 @@ use foundation::OutOfMemory;
 use page_counts::{Amount, RuleCount};
 use std::alloc::Global;
 
-/// The rules with the numbers of records that broke them, that which most broke first.
+/// The rules with the numbers of records that broke them, that which most broke first. `counts` has the
+/// counts of each rule, in declared order.
 pub(crate) fn rules_by_breaks(
     alloc: Global,
     survey: &Survey,

@@ -1,46 +1,45 @@
 //! The values of each field in the released records, before and after.
-ghost use Rattle.std.specs.Prelude.{◌≡◌, IfOk, count_by};
+ghost use Rattle.std.specs.Prelude.{◌≡◌, IfOk};
 ghost use Rattle.std.specs.List.{range_with_len};
 ghost use Rattle.edit_model.specs.Surveys.{IsKind};
-ghost use Rattle.page_counts.specs.Rules.{is_number};
 ghost use Rattle.release_figures.specs.Figures.{AreFieldValues, AreNumberFigures, AreValues, beyond_in, counts_in};
+ghost use Rattle.release_figures.specs.Releases.{release_parts, released_numbers};
 ghost use Rattle.release_figures.specs.inner.Ranges.{AreBinsOf};
 
 use crate::figures::{FieldValues, NumberFigures, NumberValues};
 use crate::ranges::bins_of;
-use edit_model::{Kind, Survey, Value};
+use crate::release::Release;
+use edit_model::{Kind, Value};
 use foundation::{OutOfMemory, Sequence};
 use page_counts::{
-    BinCounts, Bins, bad_count, code_counts, column, histogram, released_rows, sum_of,
+    BinCounts, Bins, bad_count, code_counts, column, histogram, number_count, sum_of,
 };
-use reason_lines::Reasons;
-use record_text::Sheet;
 use std::alloc::Global;
 
-/// For each field, in declared order, its values in the records that were released, as they came and as they were released. Each column is
-/// made once, and dropped before the next.
+/// For each field, in declared order, its values in the records of these numbers, as they came and as
+/// they were released. `numbers` are those of the released records. Each column is made once, and
+/// dropped before the next.
 pub(crate) fn field_values(
     alloc: Global,
-    survey: &Survey,
-    records: &Sheet,
-    released: &Sheet,
-    reasons: &Reasons,
+    release: &Release,
+    numbers: &[u32],
 ) -> Result<Vec<FieldValues>, OutOfMemory>
-    ensures { IfOk result (λ values. AreValues records.now released.now reasons.now 0 survey.now.fields values.items) }
+    requires { numbers.now ≡ released_numbers (release_parts release.now) }
+    ensures { IfOk result (λ values. AreValues (release_parts release.now) 0 release.now.survey.now.fields values.items) }
 {
-    let fields = survey.fields();
-    let among_records = released_rows(alloc, records.len(), reasons.left_out.as_slice())?;
-    let among_released = all_rows(alloc, released.len())?;
+    let fields = release.survey.fields();
+    let all_rows = all_rows(alloc, release.released.len())?;
+    let rows = all_rows.as_slice();
     let mut values = Vec::with_capacity(alloc, fields.len())?;
     for (number, field) in fields.iter().enumerate() {
-        let before = column(alloc, records, &among_records, number as u32)?;
-        let after = column(alloc, released, &among_released, number as u32)?;
+        let before = column(alloc, release.records, numbers, number as u32)?;
+        let after = column(alloc, release.released, rows, number as u32)?;
         values.push(values_of(alloc, &field.kind, &before, &after)?)?;
     }
     Ok(values)
 }
 
-// The numbers of so many rows.
+// The numbers of `rows` rows: 0, 1 and so on.
 fn all_rows(alloc: Global, rows: u32) -> Result<Vec<u32>, OutOfMemory>
     ensures { IfOk result (λ numbers. numbers.items ≡ range_with_len 0 rows) }
 {
@@ -122,14 +121,4 @@ fn counts_in(alloc: Global, bins: Option<Bins>, values: &[Value]) -> Result<BinC
             beyond: number_count(values),
         }),
     }
-}
-
-// How many of the values are numbers.
-fn number_count(values: &[Value]) -> usize
-    ensures { result ≡ count_by is_number values.now }
-{
-    values
-        .iter()
-        .filter(|value| matches!(value, Value::Number(_)))
-        .count()
 }

@@ -1,5 +1,5 @@
-//! The program of pages: it takes the words of the command line, and has them served over the files of the system and
-//! standard output. What it serves is the call `page_main` of the crate `page_command`.
+//! The program of pages: it takes the words of the command line, and has them served over the files of
+//! the system and standard output. What it serves is the call `page_main` of the crate `page_command`.
 #![tactic(auto)]
 
 use edit_desk::{FileDesk, OutPrinter};
@@ -7,6 +7,9 @@ use page_command::page_main;
 use run_parts::{Status, refuse_words, words_after_program_name};
 use std::process::ExitCode;
 
+// Reads the words after the program's name, has them served, and ends the process with the number of the
+// run's status. Where the runtime can't be shared with the desk and the printer, memory was refused, and
+// nothing is printed.
 fn main(rt: HostRuntime) -> ExitCode {
     let alloc = rt.alloc();
     let Ok(out) = rt.clone() else {

@@ -17,7 +17,8 @@ use Rattle.run_parts.specs.declared.status.Status.{Status}
 use Rattle.run_parts.specs.declared.status.Status.TheVariants as status
 use Rattle.page_command.specs.PageFaults.{AreNoReasons, IsUnfit, RefusesPage, calls_to, page_fault_text}
 use Rattle.page_command.specs.PageRun.{IsPageMade, page_calls, page_command}
-use Rattle.page_command.specs.PageSources.{PageSources, kept_count}
+use Rattle.release_figures.specs.Releases.{ReleaseParts}
+use Rattle.page_command.specs.PageSources.{kept_count}
 use Rattle.page_command.specs.declared.page_fault.PageFault.{PageFault}
 use Rattle.page_command.specs.declared.page_fault.PageFault.TheVariants.{Reasons, Released, Rows}
 use Rattle.page_command.specs.declared.page_run.PageFile.{PageFile}
@@ -110,7 +111,7 @@ TellsReasons found (Unfit (Reasons what)) = (found ≡ what) × (what ≢ reason
 TellsReasons found (Unfit what) = ⊥
 
 -- the released file has other rows than the records that were not left out, or memory was refused
-abbrev pub RefusesRows : PageSources → PageRefusal → Type 0
+abbrev pub RefusesRows : ReleaseParts → PageRefusal → Type 0
 RefusesRows sources (Shared f) = f ≡ fault.OutOfMemory
 RefusesRows sources (Unfit (Rows given kept)) = (given ≡ length sources.released.rows) × (kept ≡ kept_count sources) × (given ≢ kept)
 RefusesRows sources (Unfit what) = ⊥

@@ -6,18 +6,14 @@ use Rattle.command_words.proofs.AskedLaws.{page_of}
 use Rattle.run_parts.specs.Faults.{fault_status}
 use Rattle.run_parts.specs.Readings.{AnswersDue, HoldsRecords, HoldsRules, RefusesInput}
 use Rattle.run_parts.specs.Run.{AreCallsTo}
-use Rattle.run_parts.specs.declared.status.Status.TheVariants as status
 use Rattle.run_parts.proofs.CallLaws.{all-calls, input-calls, less-calls}
 use Rattle.run_parts.proofs.ToldLaws.{both-told, each-told, handed, where-told}
 use Rattle.page_command.specs.PageFaults.{IsPageDue, RefusesPage}
 use Rattle.page_command.specs.PageRun.{page_calls}
-use Rattle.page_command.specs.PageSources.{HoldsSources}
 use Rattle.page_command.specs.inner.PageParts.{AreCallsBefore, AreNoReasonLines, AreNoReleased, Refuses, RefusesFile, refusal_status}
-use Rattle.page_command.proofs.DueLaws.{input_refused, reasons_refused, released_refused, rows_refused}
-use Rattle.page_command.proofs.RefusalLaws.{all-held, behind_input, input-cause, input_of, of-file, of-rows, reasons-calls, reasons-cause, reasons-faults}
-use Rattle.page_command.proofs.RefusalLaws.{reasons_of, released-calls, released-cause, released_of, rows-calls, rows-cause, rows-faults}
-use Rattle.page_command.proofs.RunLaws.{told_fit_due}
-use Rattle.page_command.proofs.SourceLaws.{sources_of}
+use Rattle.page_command.proofs.DueLaws.{input_refused, reasons_refused, released_refused}
+use Rattle.page_command.proofs.RefusalLaws.{behind_input, input-cause, input_of, of-file, reasons-calls, reasons-cause, reasons-faults}
+use Rattle.page_command.proofs.RefusalLaws.{reasons_of, released-calls, released-cause, released_of}
 use Rattle.page_command.proofs.sources.fetch_sources.Goals as goal
 
 -- what these words ask for
@@ -153,71 +149,7 @@ returns-in_err-reasons-clause-faults g c =
     (reasons-faults c.in_err-reasons.field-0.0 _ _ _ _ c.in_ok-survey.ensures.faults c.in_ok-released.ensures.faults
     c.in_err-reasons.ensures.faults)
 
--- ---- the rows do not fit
-
-pub returns-in_err-check_rows-clause-kind : goal.returns-in_err-check_rows-clause-kind
-returns-in_err-check_rows-clause-kind g c =
-    rw (handed c.from_residual-in_err-check_rows.result _ c.from_residual-in_err-check_rows.ensures.1)
-    (of-rows (sources_of c.in_ok-survey.survey c.in_ok-survey.records c.in_ok-released.released c.in_ok-reasons.reasons)
-    c.in_err-check_rows.field-0.0 c.in_err-check_rows.ensures.refused)
-
-pub returns-in_err-check_rows-clause-cause : goal.returns-in_err-check_rows-clause-cause
-returns-in_err-check_rows-clause-cause g c =
-    let r = c.in_err-check_rows.field-0.0 in
-    let asked = asked_in c.asked.inside in
-    let before = g.D.Desk.files c.args.desk.now in
-    let sources = sources_of c.in_ok-survey.survey c.in_ok-survey.records c.in_ok-released.released c.in_ok-reasons.reasons in
-    let held = all-held asked before _ _ sources c.len.result c.in_ok-survey.ensures.unchanged c.in_ok-released.ensures.unchanged
-    c.len.ensures.rows c.in_ok-survey.ensures.rules c.in_ok-survey.ensures.records c.in_ok-released.ensures.read c.in_ok-reasons.ensures.read in
-    rw (handed c.from_residual-in_err-check_rows.result _ c.from_residual-in_err-check_rows.ensures.1)
-    (subst (λ (a : PageAsked). Refuses a before r) c.asked.view_is
-    (rows-cause asked before sources held r c.in_err-check_rows.ensures.refused))
-
-pub returns-in_err-check_rows-clause-due : goal.returns-in_err-check_rows-clause-due
-returns-in_err-check_rows-clause-due g c =
-    let r = c.in_err-check_rows.field-0.0 in
-    let asked = asked_in c.asked.inside in
-    let before = g.D.Desk.files c.args.desk.now in
-    let sources = sources_of c.in_ok-survey.survey c.in_ok-survey.records c.in_ok-released.released c.in_ok-reasons.reasons in
-    let held = all-held asked before _ _ sources c.len.result c.in_ok-survey.ensures.unchanged c.in_ok-released.ensures.unchanged
-    c.len.ensures.rows c.in_ok-survey.ensures.rules c.in_ok-survey.ensures.records c.in_ok-released.ensures.read c.in_ok-reasons.ensures.read in
-    rw (handed c.from_residual-in_err-check_rows.result _ c.from_residual-in_err-check_rows.ensures.1)
-    (subst (λ (a : PageAsked). IfSome before (λ o. AnswersDue (IsPageDue a o) (refusal_status r))) c.asked.view_is
-    (each-told before (λ o h. rows_refused asked o sources h r c.in_err-check_rows.ensures.refused)
-    (where-told before (λ o. HoldsSources o asked sources) held)))
-
-pub returns-in_err-check_rows-clause-asked : goal.returns-in_err-check_rows-clause-asked
-returns-in_err-check_rows-clause-asked g c =
-    let r = c.in_err-check_rows.field-0.0 in
-    let asked = asked_in c.asked.inside in
-    let before = g.D.Desk.calls c.args.desk.now in
-    let sources = sources_of c.in_ok-survey.survey c.in_ok-survey.records c.in_ok-released.released c.in_ok-reasons.reasons in
-    rw (handed c.from_residual-in_err-check_rows.result _ c.from_residual-in_err-check_rows.ensures.1)
-    (subst (λ (a : PageAsked). PutsOnRecord before (g.D.Desk.calls c.fetch_reasons.new.desk) (AreCallsBefore a r)) c.asked.view_is
-    (rows-calls asked before _ sources r c.in_err-check_rows.ensures.refused
-    (all-calls before _ _ (input_of asked ++ released_of asked) (reasons_of asked)
-    (all-calls before _ _ (input_of asked) (released_of asked) c.in_ok-survey.ensures.asked c.in_ok-released.ensures.asked)
-    c.in_ok-reasons.ensures.asked)))
-
-pub returns-in_err-check_rows-clause-faults : goal.returns-in_err-check_rows-clause-faults
-returns-in_err-check_rows-clause-faults g c =
-    let sources = sources_of c.in_ok-survey.survey c.in_ok-survey.records c.in_ok-released.released c.in_ok-reasons.reasons in
-    rw (handed c.from_residual-in_err-check_rows.result _ c.from_residual-in_err-check_rows.ensures.1)
-    (rows-faults sources c.in_err-check_rows.field-0.0 (g.D.Desk.faults c.args.desk.now) (g.D.Desk.faults c.fetch_input.new.desk)
-    (g.D.Desk.faults c.fetch_released.new.desk) (g.D.Desk.faults c.fetch_reasons.new.desk) c.in_err-check_rows.ensures.refused c.in_ok-survey.ensures.faults
-    c.in_ok-released.ensures.faults c.in_ok-reasons.ensures.faults)
-
--- ---- all was read, and fits
-
-pub returns-clause-due : goal.returns-clause-due
-returns-clause-due g c =
-    let asked = asked_in c.asked.inside in
-    let before = g.D.Desk.files c.args.desk.now in
-    let sources = sources_of c.in_ok-survey.survey c.in_ok-survey.records c.in_ok-released.released c.in_ok-reasons.reasons in
-    let held = all-held asked before _ _ sources c.len.result c.in_ok-survey.ensures.unchanged c.in_ok-released.ensures.unchanged
-    c.len.ensures.rows c.in_ok-survey.ensures.rules c.in_ok-survey.ensures.records c.in_ok-released.ensures.read c.in_ok-reasons.ensures.read in
-    subst (λ (a : PageAsked). IfSome before (λ o. AnswersDue (IsPageDue a o) status.Done)) c.asked.view_is
-    (told_fit_due asked before sources held c.in_ok-check_rows.ensures.rows status.Done)
+-- ---- all was read
 
 pub returns-clause-asked : goal.returns-clause-asked
 returns-clause-asked g c =

@@ -3,7 +3,7 @@ use Rattle.page_figures.proofs.Names.{codes, decimal, element, followed, map, on
 use Rattle.std.proofs.Common.{◌*◌, ◌-◌, ◌^◌, min, sym}
 use Rattle.std.proofs.lemmas.List.{length-map}
 use Rattle.page_markup.specs.declared.tag.Tag.TheVariants as tag
-use Rattle.page_figures.specs.Drawings.{bars_below, bars_height, drawing_attributes, line_content, names_content, parts_of}
+use Rattle.page_figures.specs.Drawings.{bars_below, bars_height, drawing_attributes, figure_parts, line_content, names_content, parts_of}
 use Rattle.page_figures.proofs.bars.push_bar_drawing.Goals as goal
 
 pub returns : goal.returns
@@ -14,7 +14,7 @@ returns c =
     let view : c.as_bytes.result.now ≡ codes "0 0 784 " ++ decimal c.saturating_mul-height.result = search rules in
     let attributes = λ (v : List ℕ). drawing_attributes c.args.figure.now.id v in
     let a = attributes (codes "0 0 784 " ++ decimal (bars_height bars)) in
-    let names = names_content c.args.figure.now Nothing in
+    let names = names_content (figure_parts c.args.figure.now) Nothing in
     let drawn = Element tag.Group [] (bars_below c.args.greatest 0 bars) Nothing in
     let axis = λ (h : ℕ). line_content (codes "axis") 224 0 224 h Nothing in
     let x = axis (bars_height bars) in

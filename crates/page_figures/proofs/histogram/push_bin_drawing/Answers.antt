@@ -1,6 +1,6 @@
 use Rattle.page_figures.proofs.Names.{◌∙◌, [], added, ap, both, codes, element, followed, map, on_ok_weaker, opened, refl, Element, Nothing}
 use Rattle.page_markup.specs.declared.tag.Tag.TheVariants as tag
-use Rattle.page_figures.specs.Drawings.{bins_content, drawing_attributes, layout_of, level_content, names_content, parts_of}
+use Rattle.page_figures.specs.Drawings.{bins_content, drawing_attributes, figure_parts, layout_of, level_content, names_content, parts_of}
 use Rattle.page_figures.specs.declared.histogram.Layout.{Layout}
 use Rattle.page_figures.proofs.histogram.push_bin_drawing.Goals as goal
 
@@ -9,7 +9,7 @@ returns c =
     let bins = map parts_of c.args.bins.now in
     let attributes = drawing_attributes c.args.figure.now.id (codes "0 0 784 296") in
     let start = opened tag.Drawing attributes c.args.page.now in
-    let names = names_content c.args.figure.now Nothing in
+    let names = names_content (figure_parts c.args.figure.now) Nothing in
     let grid = level_content (codes "grid") c.args.greatest 24 Nothing in
     let drawn = λ (l : Layout). Element tag.Group [] (bins_content l 88 0 bins) Nothing in
     let axis = level_content (codes "axis") 0 264 Nothing in

@@ -4,14 +4,14 @@ use Rattle.page_figures.specs.Drawings.{BarParts}
 use Rattle.page_markup.specs.OpenPages.{added}
 use Rattle.page_sections.proofs.SectionLaws.{section}
 use Rattle.page_sections.specs.DonorSection.{donor_figure, donor_note}
-use Rattle.page_sections.specs.Sections.{histogram_content, own_parts, size_bar}
+use Rattle.page_sections.specs.Sections.{histogram_content, bar_parts, size_bar}
 use Rattle.page_sections.proofs.donors.push_donors.Goals as goal
 
 pub returns : goal.returns
 unfolding donor_figure donor_note
 returns c =
     let figure = λ (bars : List BarParts). histogram_content donor_figure (codes "donors" ∷ []) bars in
-    let bars = ap (map own_parts) c.deref.ensures.value ∙ c.in_ok-bins.ensures in
+    let bars = ap (map bar_parts) c.deref.ensures.value ∙ c.in_ok-bins.ensures in
     let shown = c.in_ok-push_own_histogram.ensures
     ∙ ap (λ (bs : List BarParts). added (figure bs) c.open_section.new.page) bars in
     on_ok_weaker c.close.result (λ e. e ∙ section (codes "Donors") donor_note

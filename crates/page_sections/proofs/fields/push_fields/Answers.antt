@@ -5,14 +5,14 @@ use Rattle.page_figures.specs.Drawings.{BarParts}
 use Rattle.page_markup.specs.OpenPages.{added}
 use Rattle.page_sections.proofs.SectionLaws.{section}
 use Rattle.page_sections.specs.FieldSection.{field_bar, field_bars, field_figure, field_note, field_series}
-use Rattle.page_sections.specs.Sections.{bars_content, own_parts}
+use Rattle.page_sections.specs.Sections.{bars_content, bar_parts}
 use Rattle.page_sections.proofs.fields.push_fields.Goals as goal
 
 pub returns : goal.returns
 unfolding field_figure field_note field_series
 returns c =
     let figure = λ (bars : List BarParts). bars_content field_figure field_series bars in
-    let bars = ap (map own_parts) c.deref.ensures.value ∙ c.in_ok-bars.ensures
+    let bars = ap (map bar_parts) c.deref.ensures.value ∙ c.in_ok-bars.ensures
     ∙ ap (λ (cs : List FieldCount). map (field_bar c.args.fields.now cs) c.as_slice-amounts.result.now) c.as_slice.ensures
     ∙ ap (map (field_bar c.args.fields.now c.args.figures.now.fields)) c.as_slice-amounts.ensures in
     let shown = c.in_ok-push_own_bars.ensures

@@ -14,7 +14,7 @@ unfolding page_title
 returns c =
     let charset = Void Meta ((Charset, codes "utf-8") ∷ []) Nothing in
     let title = Element tag.Title [] (Words page_title Nothing) Nothing in
-    let last = both title (Style Nothing) c.push_viewport.new.page c.push_element.new.page c.style.new.self c.in_ok-push_element.ensures
+    let last = both title (Style Nothing) c.push_viewport.new.page c.push_words.new.page c.style.new.self c.in_ok-push_words.ensures
     c.in_ok-style.ensures.written in
     let rest = both viewport_content (followed title (Style Nothing)) c.empty.new.self c.push_viewport.new.page c.style.new.self
     c.in_ok-push_viewport.ensures last in

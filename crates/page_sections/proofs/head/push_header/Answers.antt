@@ -14,8 +14,8 @@ returns c =
     let title = Element tag.Heading1 [] (Words page_title Nothing) Nothing in
     let said = λ (words : List ℕ). Element tag.Paragraph [] (Words words Nothing) Nothing in
     let words = summary c.args.rows c.args.counts.now in
-    let second = c.in_ok-push_element-2.ensures ∙ ap (λ (w : List ℕ). added (said w) c.push_element.new.page)
+    let second = c.in_ok-push_words-2.ensures ∙ ap (λ (w : List ℕ). added (said w) c.push_words.new.page)
     (c.deref.ensures.value ∙ c.in_ok-words.ensures) in
-    let all = both title (said words) c.open.new.self c.push_element.new.page c.push_element-2.new.page c.in_ok-push_element.ensures second in
+    let all = both title (said words) c.open.new.self c.push_words.new.page c.push_words-2.new.page c.in_ok-push_words.ensures second in
     on_ok_weaker c.close.result (λ e. e ∙ element tag.Header [] (followed title (said words)) c.args.page.now c.open.new.self
-    c.push_element-2.new.page c.in_ok-open.ensures.written all) c.close.ensures.written
+    c.push_words-2.new.page c.in_ok-open.ensures.written all) c.close.ensures.written

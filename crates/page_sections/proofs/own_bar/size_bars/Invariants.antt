@@ -1,6 +1,6 @@
 use Rattle.std.proofs.Common.{◌≡◌, map, take}
-use Rattle.page_sections.specs.Sections.{own_parts, size_bar}
+use Rattle.page_sections.specs.Sections.{bar_parts, size_bar}
 use Rattle.page_sections.proofs.own_bar.size_bars.Given as goal
 
 abbrev pub invariant-loop-count : goal.invariant-loop-count
-invariant-loop-count l = map own_parts l.bars.items ≡ map size_bar (take l.count-index l.counts)
+invariant-loop-count l = map bar_parts l.bars.items ≡ map size_bar (take l.count-index l.counts)

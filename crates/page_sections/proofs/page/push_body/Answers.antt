@@ -6,7 +6,7 @@ use Rattle.page_markup.specs.OpenPages.{added}
 use Rattle.page_markup.specs.Trees.Content.{Element, Nothing}
 use Rattle.page_markup.specs.declared.tag.Tag.TheVariants as tag
 use Rattle.page_sections.specs.ReleasePages.{header_content, sections_content}
-use Rattle.page_sections.specs.Releases.{release_parts}
+use Rattle.release_figures.specs.Releases.{release_parts}
 use Rattle.page_sections.proofs.page.push_body.Goals as goal
 
 pub returns : goal.returns

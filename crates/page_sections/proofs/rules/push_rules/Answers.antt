@@ -5,14 +5,14 @@ use Rattle.page_figures.specs.Drawings.{BarParts}
 use Rattle.page_markup.specs.OpenPages.{added}
 use Rattle.page_sections.proofs.SectionLaws.{section}
 use Rattle.page_sections.specs.RuleSection.{rule_bar, rule_bars, rule_figure, rule_note, rule_series}
-use Rattle.page_sections.specs.Sections.{bars_content, own_parts}
+use Rattle.page_sections.specs.Sections.{bars_content, bar_parts}
 use Rattle.page_sections.proofs.rules.push_rules.Goals as goal
 
 pub returns : goal.returns
 unfolding rule_figure rule_note rule_series
 returns c =
     let figure = λ (bars : List BarParts). bars_content rule_figure rule_series bars in
-    let bars = ap (map own_parts) c.deref.ensures.value ∙ c.in_ok-bars.ensures
+    let bars = ap (map bar_parts) c.deref.ensures.value ∙ c.in_ok-bars.ensures
     ∙ ap (λ (cs : List RuleCount). map (rule_bar c.args.survey.now cs) c.as_slice-amounts.result.now) c.as_slice.ensures
     ∙ ap (map (rule_bar c.args.survey.now c.args.figures.now.rules)) c.as_slice-amounts.ensures in
     let shown = c.in_ok-push_own_bars.ensures

@@ -1,8 +1,8 @@
 use Rattle.std.proofs.Common.{◌≡◌, map}
 use Rattle.std.specs.List.{range_with_len}
-use Rattle.page_sections.specs.Sections.{own_parts}
+use Rattle.page_sections.specs.Sections.{bar_parts}
 use Rattle.page_sections.specs.ValueSection.{bin_bar}
 use Rattle.page_sections.proofs.value_bars.bars_of.Given as goal
 
 abbrev pub invariant-loop-i : goal.invariant-loop-i
-invariant-loop-i l = map own_parts l.bars.items ≡ map (bin_bar l.bins l.numbers) (range_with_len 0 l.i)
+invariant-loop-i l = map bar_parts l.bars.items ≡ map (bin_bar l.bins l.numbers) (range_with_len 0 l.i)

@@ -1,11 +1,11 @@
-//! What a page is of.
+//! What the page of a release is of.
 use edit_model::Survey;
 use reason_lines::Reasons;
 use record_text::Sheet;
 
-/// A survey, its records as they came and as they were released, and the reasons.
+/// A survey, its records as they came and as they were released, and the reasons for the changes.
 #[derive(Clone, Copy)]
-pub(crate) struct Release<'a> {
+pub struct Release<'a> {
     pub survey: &'a Survey,
     pub records: &'a Sheet,
     pub released: &'a Sheet,
