@@ -1,4 +1,4 @@
-//! The commands of a file of cases.
+//! The commands of a file of cases: what their words mean, before any of them is done.
 
 use crate::commands::{Commands, Role};
 use crate::fault::{Kind, PartFault};
@@ -14,7 +14,7 @@ pub enum Command<'a> {
         name: &'a str,
         bytes: Vec<u8>,
     },
-    /// `yes TEXT | head -n N >NAME`: the file has this line so often.
+    /// `yes TEXT | head -n N >NAME`: the file has N lines, each TEXT.
     Repeat {
         text: &'a str,
         count: u64,
@@ -48,8 +48,9 @@ pub enum Command<'a> {
 }
 
 impl<'a> Command<'a> {
-    /// The command of these words, where those beside the commands of files are `C`'s. A file that is to be written has no
-    /// bytes yet.
+    /// The command of these words; those beside the commands of files are `C`'s. The file of a `Write`
+    /// has no bytes yet: they stand in the lines behind the command. `Kind::Command` where no command
+    /// has these words, and `Kind::Spelling` where a text of `sed` is out of form.
     pub fn of<C: Commands>(alloc: Global, words: &[&'a str]) -> Result<Command<'a>, PartFault> {
         match words {
             ["cat", name, "<<EOF"] => match name.strip_prefix('>') {
@@ -89,7 +90,8 @@ impl<'a> Command<'a> {
     }
 }
 
-// The command of the program's own that has these words.
+// The command of these words among `C`'s, which are the program's own. `Kind::Command` where it has
+// none.
 fn own<'a, C: Commands>(alloc: Global, words: &[&'a str]) -> Result<Command<'a>, PartFault> {
     match C::role_of(words) {
         Some(role) => Ok(Command::Own {
@@ -100,7 +102,8 @@ fn own<'a, C: Commands>(alloc: Global, words: &[&'a str]) -> Result<Command<'a>,
     }
 }
 
-// The file of this many equal lines whose name stands behind `>`.
+// The command that writes a file of `count` lines, each this text. `name` is the word for the file, which
+// has a `>` in front. `Kind::Command` where a word is not in form.
 fn repeated<'a>(text: &'a str, count: &str, name: &'a str) -> Result<Command<'a>, PartFault> {
     match (number_of(count), name.strip_prefix('>')) {
         (Some(count), Some(name)) => Ok(Command::Repeat { text, count, name }),
@@ -108,7 +111,9 @@ fn repeated<'a>(text: &'a str, count: &str, name: &'a str) -> Result<Command<'a>
     }
 }
 
-// The changes that these words ask for: each second of them is a script, behind `-e`.
+// The changes that these words ask for: each second of them is a script, behind `-e`. `Kind::Command`
+// where that is not so, or a script has another form, and `Kind::Spelling` where its text is out of
+// form.
 fn edits_of(alloc: Global, words: &[&str]) -> Result<Vec<LineEdit>, PartFault> {
     let mut edits = Vec::new(alloc);
     for pair in words.chunks(2) {

@@ -1,4 +1,5 @@
-//! The commands that a program has beside those of files.
+//! What a program of cases brings along: its own commands, beside those of files, which are the same for
+//! all programs.
 ghost use Rattle.std.specs.Thread.{IsSync};
 
 use crate::files::Files;
@@ -7,7 +8,7 @@ use std::alloc::Global;
 use std::sync::Wait;
 use std::thread::Threads;
 
-/// What a command of a program's own is among the commands of a file.
+/// What a command of a program's own is among the commands of a file: whether a case begins with it.
 #[derive(Clone, Copy, Debug, PartialEq, Eq)]
 pub enum Role {
     /// A case begins with it.
@@ -21,10 +22,13 @@ pub trait Commands: Drop {
     /// What is kept before the first command of a file of cases.
     fn start(alloc: Global) -> Self;
 
-    /// What a command of these words is, or None where the program has none.
+    /// Whether a case begins with a command of these words, or None where the program has no such
+    /// command.
     fn role_of(words: &[&str]) -> Option<Role>;
 
-    /// Does the command of these words, and gives the lines of its output, as they are spelled.
+    /// Does the command of these words, and gives the lines of its output, as they are spelled. A
+    /// command that fails says so in these; `Err` is for want of memory alone. `rt` gives threads to a
+    /// command that runs some.
     fn perform<R: Threads + Wait + Sync>(
         &mut self,
         rt: &R,

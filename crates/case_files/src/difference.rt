@@ -1,11 +1,11 @@
-//! How what came differs from what was to come.
+//! Whether what came of a command is what was to come, and how it differs.
 ghost use Rattle.std.specs.Prelude.{◌≡◌, map};
 ghost use Rattle.case_files.specs.Comparison.{are_same};
 
 use foundation::OutOfMemory;
 use std::alloc::Global;
 
-/// Whether what came is what was to come, line by line.
+/// Whether the lines that came are those that were expected, in the same order.
 pub fn is_same(expected: &[&[u8]], came: &[Vec<u8>]) -> bool
     ensures { result ≡ are_same (map (λ line. line.now) expected.now) (map (λ line. line.items) came.now) }
 {
@@ -20,8 +20,9 @@ pub fn is_same(expected: &[&[u8]], came: &[Vec<u8>]) -> bool
     true
 }
 
-/// The lines in which what came differs from what was to come, all from the first of them to the last: those that were
-/// to come with `-` in front, and then those that came, with `+`.
+/// How the lines that came differ from those that were to come, as lines to be printed, without line
+/// feeds. Equal lines at both ends are left out. Of the others, those that were to come stand first,
+/// with `-` in front, and then those that came, with `+`.
 pub fn difference(
     alloc: Global,
     expected: &[&[u8]],
@@ -50,7 +51,7 @@ pub fn difference(
     Ok(lines)
 }
 
-// A line with this mark in front.
+// A line with the byte `mark` in front of it.
 fn marked(alloc: Global, mark: u8, line: &[u8]) -> Result<Vec<u8>, OutOfMemory> {
     let mut text = Vec::new(alloc);
     text.push(mark)?;

@@ -13,24 +13,28 @@ pub enum Fault {
 }
 
 impl From<OutOfMemory> for Fault {
+    // A call below was refused memory: the run ends.
     fn from(_refused: OutOfMemory) -> Self {
         Fault::OutOfMemory
     }
 }
 
 impl From<AllocError> for Fault {
+    // Memory was refused: the run ends.
     fn from(_refused: AllocError) -> Self {
         Fault::OutOfMemory
     }
 }
 
 impl<T: Drop> From<AllocFailed<T>> for Fault {
+    // A list was refused memory to grow: the run ends.
     fn from(_refused: AllocFailed<T>) -> Self {
         Fault::OutOfMemory
     }
 }
 
 impl From<PrintFailed> for Fault {
+    // A line was not printed: the run ends.
     fn from(_failed: PrintFailed) -> Self {
         Fault::Unprinted
     }
@@ -54,7 +58,7 @@ pub enum Kind {
 }
 
 impl Kind {
-    /// What is printed of it.
+    /// The words that are printed for what is out of form.
     pub fn text(self) -> &'static str {
         match self {
             Kind::NoText => "no text",
@@ -86,7 +90,7 @@ pub enum PartFault {
 }
 
 impl PartFault {
-    /// The fault of the line of this number.
+    /// The fault of a part of the line of this number, as a fault of the file.
     pub fn at(self, number: u64) -> FormFault {
         match self {
             PartFault::Form { kind } => FormFault::Line { number, kind },
@@ -96,18 +100,21 @@ impl PartFault {
 }
 
 impl From<Kind> for PartFault {
+    // What is out of form, in a part of a line whose number is not known yet.
     fn from(kind: Kind) -> Self {
         PartFault::Form { kind }
     }
 }
 
 impl From<AllocError> for PartFault {
+    // Memory was refused: the file is not read.
     fn from(_refused: AllocError) -> Self {
         PartFault::OutOfMemory
     }
 }
 
 impl<T: Drop> From<AllocFailed<T>> for PartFault {
+    // A list was refused memory to grow: the file is not read.
     fn from(_refused: AllocFailed<T>) -> Self {
         PartFault::OutOfMemory
     }

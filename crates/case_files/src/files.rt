@@ -1,4 +1,5 @@
-//! Files in memory, and the commands that make, show and change them.
+//! Files in memory, and the commands that make, show and change them. Each command answers the lines of
+//! its output, as they are spelled.
 
 use crate::line_edits::{LineEdit, edited, line_count};
 use crate::spelling::spelled_lines;
@@ -21,7 +22,7 @@ impl Files {
         }
     }
 
-    /// The bytes of a file, where there is one of this name.
+    /// The bytes of the file of this name, and None where there is none.
     pub fn bytes(&self, name: &str) -> Option<&[u8]> {
         match self.named.get(name) {
             Some(bytes) => Some(bytes.as_slice()),
@@ -29,17 +30,17 @@ impl Files {
         }
     }
 
-    /// Takes all files out.
+    /// Takes all files out, and leaves none, so that a desk may have them during a run.
     pub fn take(&mut self, alloc: Global) -> BTreeMap<String, Vec<u8>> {
         mem::replace(&mut self.named, BTreeMap::new(alloc))
     }
 
-    /// Has these files, and no others, from now on.
+    /// Puts files back after a run: these, and no others, are there from now on.
     pub fn restore(&mut self, named: BTreeMap<String, Vec<u8>>) {
         self.named = named;
     }
 
-    /// Puts the bytes under the name.
+    /// Puts the bytes under the name, in the place of what stood there. The output has no lines.
     pub(crate) fn put(
         &mut self,
         alloc: Global,
@@ -50,7 +51,7 @@ impl Files {
         Ok(Vec::new(alloc))
     }
 
-    /// The lines of a file.
+    /// The lines of a file, as they are spelled, or that there is none of this name.
     pub(crate) fn show(&self, alloc: Global, name: &str) -> Result<Vec<Vec<u8>>, OutOfMemory> {
         match self.bytes(name) {
             Some(bytes) => spelled_lines(alloc, bytes),
@@ -58,7 +59,8 @@ impl Files {
         }
     }
 
-    /// Puts the bytes of a file under another name.
+    /// Puts the bytes of the file `old` under the name `new`. The output has no lines, or says that there
+    /// is no file `old`.
     pub(crate) fn copy(
         &mut self,
         alloc: Global,
@@ -72,7 +74,8 @@ impl Files {
         self.put(alloc, new, bytes)
     }
 
-    /// Takes these files away, as far as the first that is not there.
+    /// Takes these files away, in order. The first that is not there ends the command, and the output
+    /// says so; those before it are gone.
     pub(crate) fn remove(
         &mut self,
         alloc: Global,
@@ -95,7 +98,8 @@ impl Files {
         Ok(names)
     }
 
-    /// Changes lines of a file, each of which it has.
+    /// Changes lines of a file. The output has no lines, or says that there is no such file, or which
+    /// line it doesn't have; then nothing is changed.
     pub(crate) fn change(
         &mut self,
         alloc: Global,
@@ -116,7 +120,7 @@ impl Files {
     }
 }
 
-/// This line so often.
+/// The bytes of `count` equal lines of this text.
 pub(crate) fn repeated(alloc: Global, text: &str, count: u64) -> Result<Vec<u8>, OutOfMemory> {
     let mut bytes = Vec::new(alloc);
     for _ in 0..count {
@@ -126,13 +130,13 @@ pub(crate) fn repeated(alloc: Global, text: &str, count: u64) -> Result<Vec<u8>,
     Ok(bytes)
 }
 
-/// The output of a command that finds no file of this name.
+/// The output of a command that finds no file of this name, with the status 1.
 pub fn missing(alloc: Global, command: &str, name: &str) -> Result<Vec<Vec<u8>>, OutOfMemory> {
     let text = format!(in alloc; "{command}: {name}: no such file")?;
     failing(alloc, text, 1)
 }
 
-/// The output of a command that fails.
+/// The output of a command that fails: the text, and then the status in square brackets.
 pub fn failing(alloc: Global, text: String, status: u8) -> Result<Vec<Vec<u8>>, OutOfMemory> {
     let mut lines = Vec::new(alloc);
     lines.push(text.into_bytes())?;

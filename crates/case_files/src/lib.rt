@@ -1,7 +1,7 @@
-//! Files of worked cases, in the form of cram: commands over files in memory, with the output that is to come of each.
-//! Begin with [`run_program`], which runs files of cases and prints how many cases each has, or how what came differs from
-//! what was to come. What a program's own commands do is said by its [`Commands`]. The form of such a file is told in
-//! `docs/developing.md`.
+//! Files of worked cases, in the form of cram: commands over files in memory, with the output that is to
+//! come of each. Begin with [`run_program`], which runs files of cases and prints how many cases each
+//! has, or how what came differs from what was to come. What a program's own commands do is said by its
+//! [`Commands`]. The form of such a file is told in `docs/developing.md`.
 #![tactic(auto)]
 
 mod command;

@@ -25,7 +25,9 @@ pub struct LineEdit {
 }
 
 impl LineEdit {
-    /// The change that a script of `sed` asks for: `Nc\TEXT`, `Nd` or `Na\TEXT`, with a text as [`read_escaped`] reads it.
+    /// The change that a script of `sed` asks for: `Nc\TEXT`, `Nd` or `Na\TEXT`, with a text as
+    /// [`read_escaped`] reads it. N is from 1, and for `a` from 0. `Kind::Command` where the script has
+    /// another form, and `Kind::Spelling` where its text is out of form.
     pub fn read(alloc: Global, script: &str) -> Result<LineEdit, PartFault> {
         let Some((head, text)) = script.split_once('\\') else {
             let Some(line) = script.strip_suffix('d') else {
@@ -52,13 +54,13 @@ impl LineEdit {
         })
     }
 
-    /// The number of the line, from 1, or 0 for the beginning of the file.
+    /// The number of the line that is changed, from 1, or 0 for the beginning of the file.
     pub fn line(&self) -> u64 {
         self.line
     }
 }
 
-// The number of a line, which is at least this.
+// The number of a line that the text writes. `Kind::Command` where it is no number, or is below `least`.
 fn line_number(text: &str, least: u64) -> Result<u64, Kind> {
     match number_of(text) {
         Some(number) if number >= least => Ok(number),
@@ -66,7 +68,8 @@ fn line_number(text: &str, least: u64) -> Result<u64, Kind> {
     }
 }
 
-// The bytes of a text, and a line feed behind them.
+// The bytes of an escaped text, with a line feed behind them. `Kind::Spelling` where the text is out of
+// form.
 fn text_of(alloc: Global, text: &str) -> Result<Vec<u8>, PartFault> {
     let mut bytes = Vec::new(alloc);
     read_escaped(&mut bytes, text.as_bytes())?;
@@ -74,13 +77,14 @@ fn text_of(alloc: Global, text: &str) -> Result<Vec<u8>, PartFault> {
     Ok(bytes)
 }
 
-/// How many lines these bytes have.
+/// How many lines these bytes have. A last one without a line feed counts.
 pub fn line_count(bytes: &[u8]) -> u64 {
     bytes.split_inclusive(|byte| *byte == b'\n').count() as u64
 }
 
-/// The bytes with these changes of their lines. The numbers are those of the lines as they are before any change; of two
-/// changes that leave out or take the place of one line, the first holds.
+/// The bytes with these changes of their lines. The numbers are those of the lines as they are before any
+/// change. Of two changes that leave out or take the place of one line, the first holds; texts behind one
+/// line all stand there, in order. A change of a line that is not there does nothing.
 pub fn edited(alloc: Global, bytes: &[u8], edits: &[LineEdit]) -> Result<Vec<u8>, OutOfMemory> {
     let mut new = Vec::new(alloc);
     append(&mut new, edits, 0)?;
@@ -98,7 +102,7 @@ pub fn edited(alloc: Global, bytes: &[u8], edits: &[LineEdit]) -> Result<Vec<u8>
     Ok(new)
 }
 
-// Appends the texts that are to stand behind the line of this number.
+// Appends the texts that are to stand behind the line of this number, each on lines of its own.
 fn append(new: &mut Vec<u8>, edits: &[LineEdit], number: u64) -> Result<(), OutOfMemory> {
     for edit in edits {
         if let Change::Append { text } = &edit.change
@@ -111,7 +115,7 @@ fn append(new: &mut Vec<u8>, edits: &[LineEdit], number: u64) -> Result<(), OutO
     Ok(())
 }
 
-// Appends a line feed where the last line has none.
+// Appends a line feed where the last line has none, so that what comes next is a line of its own.
 fn end_line(new: &mut Vec<u8>) -> Result<(), OutOfMemory> {
     match new.last() {
         None | Some(b'\n') => {}
@@ -121,12 +125,12 @@ fn end_line(new: &mut Vec<u8>) -> Result<(), OutOfMemory> {
 }
 
 impl LineEdit {
-    // Whether the line itself is left out, or another stands in its place.
+    // Whether the change leaves the line itself out, or puts another text in its place.
     fn is_of_line(&self) -> bool {
         !matches!(self.change, Change::Append { .. })
     }
 
-    // The text that it gives.
+    // The text that the change gives, which is empty where it leaves a line out.
     fn text(&self) -> &[u8] {
         match &self.change {
             Change::Replace { text } | Change::Append { text } => text.as_slice(),

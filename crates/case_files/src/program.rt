@@ -1,4 +1,5 @@
-//! A program that runs files of cases.
+//! The whole of a program that runs files of cases: its `main` makes this one call, with the commands of
+//! its own.
 
 use crate::commands::Commands;
 use crate::fault::Fault;
@@ -10,8 +11,8 @@ use std::rt::{Env, Files};
 use std::sync::Wait;
 use std::thread::Threads;
 
-/// Runs the files of cases that the program's words name, prints what came of each and how many cases passed and failed,
-/// and answers the exit status: 0 where there were cases and all passed, else 1.
+/// Runs the files of cases that the program's words name, and prints what came of each and how many cases
+/// passed and failed. The exit status is 0 where there were cases and all passed, and else 1.
 pub fn run_program<
     C: Commands,
     R: Threads + Wait + Sync + Env + Files + Print + AllocGlobal + Clone + Drop,
@@ -35,7 +36,8 @@ pub fn run_program<
     }
 }
 
-// Ends a run that not all cases were run of, where that can still be said.
+// Ends a run that stopped for this fault before all cases were run. Refused memory is told; of a line
+// that could not be printed nothing more can be said.
 fn leave<P: Printer>(printer: &mut P, fault: Fault) -> ExitCode {
     if fault == Fault::OutOfMemory {
         let _told = printer.line(b"out of memory");

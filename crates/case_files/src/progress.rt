@@ -1,9 +1,10 @@
-//! How many cases passed and failed.
+//! How many cases passed and failed: of the commands of one file as they are done, and of all files.
 ghost use Rattle.std.specs.Prelude.{◌≡◌, ◌↔◌, ◌<◌, ◌≤◌, IsFalse, IsSome, IsTrue};
 
-/// How many cases passed, and how many failed. A case is a command that begins one, with the commands behind it up to the
-/// next such command, and those before it where it is the first of its file; it fails where an output of these is another
-/// than was to come. A file that is not run counts as a case that failed.
+/// How many cases passed, and how many failed. A case is a command that begins one, with the commands
+/// behind it up to the next such command. The first case of a file also has the commands before it. A
+/// case fails where an output of these is another than was to come. A file that is not run counts as a
+/// case that failed.
 #[derive(Clone, Copy, Debug, PartialEq, Eq)]
 pub struct Count {
     pub passed: u64,
@@ -11,7 +12,7 @@ pub struct Count {
 }
 
 impl Count {
-    /// No cases.
+    /// The count of no cases.
     pub fn none() -> Count
         ensures { result ≡ record { passed = 0; failed = 0 } }
     {
@@ -21,7 +22,7 @@ impl Count {
         }
     }
 
-    /// One case that failed.
+    /// The count of one case that failed, as for a file that is not run.
     pub fn one_failed() -> Count
         ensures { result ≡ record { passed = 0; failed = 1 } }
     {
@@ -38,7 +39,7 @@ impl Count {
         self.passed > 0 && self.failed == 0
     }
 
-    /// The sum of two counts, as far as 64 bits go.
+    /// The sum of this count and `other`. A sum past 64 bits stays at the greatest number.
     pub fn plus(self, other: Count) -> Count
         ensures { result.failed ≡ 0 ↔ (self.failed ≡ 0) × (other.failed ≡ 0) }
     {
@@ -49,8 +50,8 @@ impl Count {
     }
 }
 
-/// How far the commands of a file are done: how many cases were begun, how many of them failed, and whether the one that
-/// was begun last did.
+/// How far the commands of a file are done: how many cases were begun, and how many of them failed.
+/// `failing` says whether the case that was begun last did.
 #[derive(Clone, Copy, Debug, PartialEq, Eq)]
 pub struct Progress {
     cases: u64,
@@ -60,7 +61,7 @@ pub struct Progress {
 }
 
 impl Progress {
-    /// No command is done.
+    /// The progress in a file of which no command is done.
     pub fn new() -> Progress {
         Progress {
             cases: 0,
@@ -69,7 +70,9 @@ impl Progress {
         }
     }
 
-    /// Notes a command that begins a case or not, with the output that was to come, or another.
+    /// Notes one command more: `begins_case` says whether a case begins with it, and `is_right` whether
+    /// its output was that which was to come. A case fails once, however many of its outputs are wrong. A
+    /// failure before the first case is that case's, so beginning the first case does not end it.
     pub fn note(&mut self, begins_case: bool, is_right: bool)
         ensures right { IsTrue is_right → self.new.failed ≡ self.old.failed }
         ensures wrong { IsFalse is_right → 0 < self.new.failed }
@@ -85,7 +88,7 @@ impl Progress {
         }
     }
 
-    /// How many cases were begun, which none of them failed, or None where one did.
+    /// How many cases were begun, where no output was wrong, and None where one was.
     pub fn whole(self) -> Option<u64>
         ensures { IsSome result ↔ self.failed ≡ 0 }
     {
@@ -96,7 +99,7 @@ impl Progress {
         }
     }
 
-    /// How many cases passed, and how many failed.
+    /// How many of the file's cases passed, and how many failed.
     pub fn count(self) -> Count
         ensures { result.failed ≡ self.failed }
     {

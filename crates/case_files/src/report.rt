@@ -1,4 +1,5 @@
-//! Files of cases, run in order, and what is printed of them.
+//! Files of cases, run in order, and what is printed of them. It is one line for a file of which all came
+//! right, and else each difference.
 
 use crate::commands::Commands;
 use crate::difference::{difference, is_same};
@@ -14,7 +15,10 @@ use std::thread::Threads;
 /// The most bytes of a file of cases: 16 MiB.
 const MOST_BYTES: u64 = 16_777_216;
 
-/// Runs files of cases, prints what came of each, and says how many cases passed and failed.
+/// Fetches and runs the files of cases with these names, and prints what came of each. At last it prints
+/// how many cases passed and failed, and answers these counts. A file that can't be read or has no
+/// reading counts as one case that failed; the run goes on with the next. The run ends where memory is
+/// refused, or a line can't be printed.
 pub fn run_files<C: Commands, R: Threads + Wait + Sync, D: Desk, P: Printer>(
     rt: &R,
     alloc: Global,
@@ -40,18 +44,19 @@ pub fn run_files<C: Commands, R: Threads + Wait + Sync, D: Desk, P: Printer>(
     Ok(count)
 }
 
-// Prints a line.
+// Prints a line, which is given without its line feed. `Fault::Unprinted` where that fails.
 fn tell<P: Printer>(printer: &mut P, line: &str) -> Result<(), Fault> {
     Ok(printer.line(line.as_bytes())?)
 }
 
-// Says that a file could not be read.
+// Prints that a file could not be read, and counts it as one case that failed.
 fn refuse_file<P: Printer>(alloc: Global, name: &str, printer: &mut P) -> Result<Count, Fault> {
     tell(printer, &format!(in alloc; "{name}: not read")?)?;
     Ok(Count::one_failed())
 }
 
-// Says which line of a file is not in form.
+// Prints that the line of this number, from 1, of a file is not in form, and why. The file counts as one
+// case that failed.
 fn refuse_form<P: Printer>(
     alloc: Global,
     name: &str,
@@ -64,7 +69,9 @@ fn refuse_form<P: Printer>(
     Ok(Count::one_failed())
 }
 
-// Runs the commands of a file of cases with these bytes.
+// Reads the bytes of the file `name` as commands, and runs them. A file that is not in form is refused
+// before any of its commands is done. `Err` ends the whole run: memory was refused, or a line was not
+// printed.
 fn run_file<C: Commands, R: Threads + Wait + Sync, P: Printer>(
     rt: &R,
     alloc: Global,
@@ -79,7 +86,8 @@ fn run_file<C: Commands, R: Threads + Wait + Sync, P: Printer>(
     }
 }
 
-// Does the commands in order, and prints how many cases there are, or each difference.
+// Does the commands of the file `name` in order, and prints how many cases it has, or each difference. A
+// difference does not end it. `Err` ends the whole run: memory was refused, or a line was not printed.
 fn run_steps<C: Commands, R: Threads + Wait + Sync, P: Printer>(
     rt: &R,
     alloc: Global,
@@ -103,7 +111,8 @@ fn run_steps<C: Commands, R: Threads + Wait + Sync, P: Printer>(
     Ok(progress.count())
 }
 
-// Prints how what came of a command differs from what was to come, below its place and the command.
+// Prints how what came of a command differs from what was to come, below the command with its file and
+// line.
 fn show_difference<P: Printer>(
     alloc: Global,
     name: &str,

@@ -1,6 +1,7 @@
-//! Bytes as a file of cases spells them, line by line. A line of printable ASCII stands as it is; in any other each byte
-//! that is not printable is `\xNN` and a backslash is doubled, and ` (esc)` stands behind it. A last line without a line
-//! feed has ` (no-eol)` behind all that.
+//! Bytes as a file of cases spells them, line by line. A line of printable ASCII stands as it is, unless
+//! it ends in ` (esc)` or ` (no-eol)`. In any other each byte that is not printable is `\xNN` and a
+//! backslash is doubled, and ` (esc)` stands behind it. A last line without a line feed has ` (no-eol)`
+//! behind all that.
 
 ghost use Rattle.std.specs.Prelude.{◌≡◌, ◌<◌, ◌++◌, IfOk, OnOk};
 ghost use Rattle.std.specs.List.{list_all};
@@ -16,7 +17,8 @@ const UNENDED: &[u8] = b" (no-eol)";
 
 const DIGITS: &[u8; 16] = b"0123456789abcdef";
 
-/// The lines of these bytes, as they are spelled.
+/// The lines of these bytes, each as a file of cases spells it. Where there are no bytes, there is no
+/// line.
 pub fn spelled_lines(alloc: Global, bytes: &[u8]) -> Result<Vec<Vec<u8>>, OutOfMemory> {
     let mut lines = Vec::new(alloc);
     for line in bytes.split_inclusive(|byte| *byte == b'\n') {
@@ -29,7 +31,7 @@ pub fn spelled_lines(alloc: Global, bytes: &[u8]) -> Result<Vec<Vec<u8>>, OutOfM
     Ok(lines)
 }
 
-// A line as it is spelled, with a line feed behind it or not.
+// The spelling of one line, given without its line feed; `ended` says whether one stands behind it.
 fn spelled_line(alloc: Global, line: &[u8], ended: bool) -> Result<Vec<u8>, OutOfMemory>
     ensures { IfOk result (λ text. text.items ≡ line_spelling line.now ended) }
 {
@@ -48,7 +50,8 @@ fn spelled_line(alloc: Global, line: &[u8], ended: bool) -> Result<Vec<u8>, OutO
     Ok(text)
 }
 
-// Whether a line stands as it is: all of it is printable, and its end is not that of another spelling.
+// Whether a line stands as it is. All of it has to be printable. It must not end in ` (esc)` or
+// ` (no-eol)`, which would be read as a part of the spelling.
 fn is_plain(line: &[u8]) -> bool
     ensures { result ≡ is_plain line.now }
 {
@@ -72,7 +75,7 @@ fn is_printable(byte: u8) -> bool
     byte == b' ' || byte.is_ascii_graphic()
 }
 
-// Appends a byte of a line that is escaped.
+// Appends a byte of a line that is escaped: a doubled backslash, the byte itself, or `\xNN`.
 fn spell(text: &mut Vec<u8>, byte: u8) -> Result<(), OutOfMemory>
     ensures { OnOk result (text.new.items ≡ text.old.items ++ byte_spelling byte) }
 {
@@ -88,7 +91,8 @@ fn spell(text: &mut Vec<u8>, byte: u8) -> Result<(), OutOfMemory>
     Ok(())
 }
 
-/// Appends the bytes of a line that is spelled so, and its line feed, and says whether it has one.
+/// Appends the bytes of the line that is spelled so, and its line feed, where it has one; the answer says
+/// whether it has. `Kind::Spelling` where the line is not printable, or an escape in it is not in form.
 pub fn read_line(bytes: &mut Vec<u8>, line: &[u8]) -> Result<bool, PartFault> {
     let (line, ended) = match line.strip_suffix(UNENDED) {
         Some(line) => (line, false),
@@ -105,7 +109,9 @@ pub fn read_line(bytes: &mut Vec<u8>, line: &[u8]) -> Result<bool, PartFault> {
     Ok(ended)
 }
 
-/// Appends the bytes of an escaped text: `\n` in it is a line feed, `\\` a backslash, and `\xNN` any byte.
+/// Appends the bytes of an escaped text: `\n` in it is a line feed, `\\` a backslash, and `\xNN` any
+/// byte. `Kind::Spelling` where anything else stands behind a backslash, or a byte is not printable.
+/// Each turn of the loop takes at least one byte, so that all are read.
 pub fn read_escaped(bytes: &mut Vec<u8>, text: &[u8]) -> Result<(), PartFault> {
     let mut rest = text;
     for _ in 0..text.len() {
@@ -134,12 +140,14 @@ pub fn read_escaped(bytes: &mut Vec<u8>, text: &[u8]) -> Result<(), PartFault> {
     Ok(())
 }
 
-// The byte of two digits of base 16.
+// The byte of two digits of base 16, of which `high` is the first. `Kind::Spelling` where one is no such
+// digit.
 fn byte_of(high: u8, low: u8) -> Result<u8, Kind> {
     Ok(digit_of(high)? * 16 + digit_of(low)?)
 }
 
-// The number of a digit of base 16.
+// The number of a digit of base 16. Letters are small: capitals are no digits here. `Kind::Spelling` for
+// any other byte.
 fn digit_of(digit: u8) -> Result<u8, Kind>
     ensures { IfOk result (λ number. number < 16) }
 {

@@ -1,4 +1,4 @@
-//! A file of cases, read line by line.
+//! A file of cases, read line by line: its commands, each with the output that is to come of it.
 
 use crate::command::Command;
 use crate::commands::Commands;
@@ -20,7 +20,7 @@ pub struct Step<'a> {
     pub expected: Vec<&'a [u8]>,
 }
 
-/// What the next line of a file of cases may be.
+/// What the next line of a file of cases may be, by the lines before it.
 #[derive(Clone, Copy, Debug, PartialEq, Eq)]
 enum Place {
     /// Commentary or a command.
@@ -33,7 +33,9 @@ enum Place {
     AtEnd,
 }
 
-/// The commands of a file of cases, in order; those beside the commands of files are `C`'s.
+/// The commands of a file of cases, in order; those beside the commands of files are `C`'s. The first
+/// line that is not in form is told by its number, from 1. A `cat >NAME <<EOF` without an end is told by
+/// the last line of the file.
 pub fn steps_of<'a, C: Commands>(
     alloc: Global,
     bytes: &'a [u8],
@@ -53,7 +55,9 @@ pub fn steps_of<'a, C: Commands>(
     }
 }
 
-// Reads one line more, and says what the next may be.
+// Reads the line of this number, and says what the next may be. `place` says what this one may be.
+// Outside of a file's lines, a line that begins with `  $ ` is a command. Another one with two spaces in
+// front is output, and the rest is commentary. The faults are those of reading the one or the other.
 fn take_line<'a, C: Commands>(
     alloc: Global,
     steps: &mut Vec<Step<'a>>,
@@ -73,7 +77,9 @@ fn take_line<'a, C: Commands>(
     }
 }
 
-// Reads a command.
+// Reads a command, which stands in the line of this number, and puts it last, with no output yet. Behind
+// `cat >NAME <<EOF` the lines of the file have to follow. `Kind::NoText` where the command is no UTF-8;
+// else the faults are those of `words_of` and of `Command::of`.
 fn take_command<'a, C: Commands>(
     alloc: Global,
     steps: &mut Vec<Step<'a>>,
@@ -98,7 +104,10 @@ fn take_command<'a, C: Commands>(
     Ok(place)
 }
 
-// Reads a line of the file that the last command writes, or the end of it.
+// Reads a line of the file that the last command writes, or the end of it. Behind a line without a line
+// feed (`AtEnd`) only the end may stand. `Kind::NoEnd` where another line stands there, or one that does
+// not begin with `  > ` (an empty one may be `  >`). `Kind::Spelling` where its bytes are not spelled in
+// form.
 fn take_text(steps: &mut Vec<Step>, place: Place, line: &[u8]) -> Result<Place, PartFault> {
     let Some(behind) = line.strip_prefix(b"  >") else {
         return Err(PartFault::from(Kind::NoEnd));
@@ -127,7 +136,8 @@ fn take_text(steps: &mut Vec<Step>, place: Place, line: &[u8]) -> Result<Place, 
     }
 }
 
-// Reads a line of the output of the last command.
+// Reads a line of the output that is to come of the last command. `Kind::Output` where commentary stands
+// between them (`place` is `Apart`), or there is no command.
 fn take_output<'a>(
     steps: &mut Vec<Step<'a>>,
     place: Place,

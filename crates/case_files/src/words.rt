@@ -1,9 +1,11 @@
-//! The words of a command.
+//! The words of a command, told apart as a file of cases spells them.
 
 use crate::fault::{Kind, PartFault};
 use std::alloc::Global;
 
-/// The words of a command: they are parted by single spaces, and one in single quotes keeps its spaces, or is empty.
+/// The words of a command: they are parted by single spaces, and one in single quotes keeps its spaces,
+/// or is empty. `Kind::Words` where a space stands too much, or a quote is open. The bound of the loop is
+/// never reached: each turn takes at least one byte of the text.
 pub fn words_of(alloc: Global, text: &str) -> Result<Vec<&str>, PartFault> {
     let mut words = Vec::new(alloc);
     let mut rest = text;
@@ -18,7 +20,9 @@ pub fn words_of(alloc: Global, text: &str) -> Result<Vec<&str>, PartFault> {
     Err(PartFault::from(Kind::Words))
 }
 
-// The first word, and what stands behind the space that follows it, where one does.
+// The first word of the text, and what stands behind the space that follows it, or None where the text
+// ends with the word. `Kind::Words` where a quote is open, anything but a space follows a closed one, or
+// a word without quotes is empty.
 fn first_word(text: &str) -> Result<(&str, Option<&str>), Kind> {
     if let Some(quoted) = text.strip_prefix('\'') {
         let Some((word, behind)) = quoted.split_once('\'') else {

@@ -1,4 +1,5 @@
 //! Where the commands of a file of cases are done: files in memory, which stay from command to command.
+//! Each file of cases begins with a workplace of its own.
 
 use crate::command::Command;
 use crate::commands::Commands;
@@ -8,7 +9,7 @@ use std::alloc::Global;
 use std::sync::Wait;
 use std::thread::Threads;
 
-/// Files in memory, and what the program's own commands keep.
+/// Files in memory, and what the program's own commands keep from one to the next.
 #[derive(Drop)]
 pub struct Workplace<C: Commands> {
     files: Files,
@@ -16,7 +17,7 @@ pub struct Workplace<C: Commands> {
 }
 
 impl<C: Commands> Workplace<C> {
-    /// A workplace with no files.
+    /// A workplace with no files, at the beginning of a file of cases.
     pub fn new(alloc: Global) -> Workplace<C> {
         Workplace {
             files: Files::new(alloc),
@@ -24,7 +25,9 @@ impl<C: Commands> Workplace<C> {
         }
     }
 
-    /// Does a command, and gives the lines of its output, as they are spelled.
+    /// Does a command, and gives the lines of its output, as a file of cases spells them. A command that
+    /// fails says so in its output; the answer is `Err` for want of memory alone. `rt` gives threads to
+    /// a command of the program's own.
     pub fn perform<R: Threads + Wait + Sync>(
         &mut self,
         rt: &R,

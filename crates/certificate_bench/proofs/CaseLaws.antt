@@ -1,4 +1,5 @@
-use Rattle.std.proofs.Common.{◌≡◌, ◌≢◌, ℕ, ℤ, zero, suc, ◌+◌, ◌<◌, ◌≤◌, All, AllPairs, List, [], ◌∷◌, ◌++◌, get_or, length, map, negsuc, pos, replicate, ap, refl, sym, ◌∙◌, subst, arith}
+use Rattle.std.proofs.Common.{◌≡◌, ◌≢◌, ℕ, ℤ, zero, suc, ◌+◌, ◌<◌, ◌≤◌, All, AllPairs, List, [], ◌∷◌, ◌++◌, get_or, length, map, negsuc, pos, replicate, ap}
+use Rattle.std.proofs.Common.{refl, sym, ◌∙◌, subst, arith}
 use Rattle.std.specs.List.{range_with_len}
 use Rattle.std.proofs.lemmas.List.{length-replicate}
 use Rattle.std.proofs.lemmas.List.Elements.{All-nil, All-push, All-replicate}
@@ -36,7 +37,8 @@ pub form-more : (before after : List Field) (field : Field) → after ≡ before
 form-more before after field items form forms = subst (λ (fs : List Field). All IsField fs) (sym items) (All-push IsField before field forms form)
 
 -- they are a survey without rules
-pub well-formed : (n : ℕ) (fields : List Field) (rules : List Rule) → n ≤ 20 → fields ≡ fields_of n → rules ≡ [] → All IsField fields → IsWellFormed (survey_of fields rules)
+pub well-formed : (n : ℕ) (fields : List Field) (rules : List Rule) → n ≤ 20 → fields ≡ fields_of n → rules ≡ [] → All IsField fields
+    → IsWellFormed (survey_of fields rules)
 well-formed n fields rules few same none forms =
     subst (λ (rs : List Rule). IsWellFormed (survey_of fields rs)) (sym none) (record {
       few_fields = omega (arith, few, ap (λ (fs : List Field). length fs) same, length-map-range_with_len (λ k. field_named (97 + k)) 0 n);
@@ -68,19 +70,23 @@ all-numbers at i zero = refl
 all-numbers at i (suc n) = ap suc (all-numbers (suc at) (i + 1) n)
 
 -- the false line is one over these fields
-pub false-line : (n : ℕ) (fields : List Field) (sets : List ℕ) (factors : List ℤ) → fields ≡ fields_of n → sets ≡ [] → factors ≡ replicate n (pos 0) → lines.IsLine (lines.parts_of (shape_of fields) sets factors (negsuc 0) AtLeast)
+pub false-line : (n : ℕ) (fields : List Field) (sets : List ℕ) (factors : List ℤ) → fields ≡ fields_of n → sets ≡ [] → factors ≡ replicate n (pos 0)
+    → lines.IsLine (lines.parts_of (shape_of fields) sets factors (negsuc 0) AtLeast)
 false-line n fields sets factors same none zeros =
     subst (λ (fs : List Field). lines.IsLine (lines.parts_of (shape_of fs) sets factors (negsuc 0) AtLeast)) (sym same) (record {
-      sets = subst (λ (ss : List ℕ). AreSets ss (whole_sets (shape_of (fields_of n)))) (sym none) (subst (λ (ws : List ℕ). AreSets [] ws) (sym (no-sets 0 n)) tt);
+      sets = subst (λ (ss : List ℕ). AreSets ss (whole_sets (shape_of (fields_of n)))) (sym none)
+          (subst (λ (ws : List ℕ). AreSets [] ws) (sym (no-sets 0 n)) tt);
       factors = ap (λ (fs : List ℤ). length fs) zeros ∙ length-replicate n (pos 0) ∙ sym (all-numbers 0 0 n);
       in_range = (subst (λ (fs : List ℤ). All InRange fs) (sym zeros) (All-replicate InRange n (pos 0) (omega arith)), omega arith);
       whole = λ _. none ∙ sym (no-sets 0 n);
     })
 
 -- it alone is given, over these fields
-pub lines-over : (n : ℕ) (fields : List Field) (given : List lines.LineParts) (line : lines.LineParts) → fields ≡ fields_of n → given ≡ line ∷ [] → line ≡ false_line n → lines.AreOver (shape_of fields) given
+pub lines-over : (n : ℕ) (fields : List Field) (given : List lines.LineParts) (line : lines.LineParts) → fields ≡ fields_of n → given ≡ line ∷ [] → line
+    ≡ false_line n → lines.AreOver (shape_of fields) given
 lines-over n fields given line same given_is is =
-    subst (λ (fs : List Field). lines.AreOver (shape_of fs) given) (sym same) (subst (λ (ls : List lines.LineParts). lines.AreOver (shape_of (fields_of n)) ls) (sym (given_is ∙ ap (λ (l : lines.LineParts). l ∷ []) is)) over)
+    subst (λ (fs : List Field). lines.AreOver (shape_of fs) given) (sym same) (subst (λ (ls : List lines.LineParts). lines.AreOver (shape_of (fields_of n)) ls)
+    (sym (given_is ∙ ap (λ (l : lines.LineParts). l ∷ []) is)) over)
   where
     over : lines.AreOver (shape_of (fields_of n)) (false_line n ∷ [])
     over zero d below = refl

@@ -1,3 +1,5 @@
+//! The certificate that the bench makes: a full tree of paths, each closed by a list of steps. A tree is
+//! full where each path is a leaf or goes on both with `K` and with `C`.
 ghost use Rattle.std.specs.Prelude.{◌≡◌, ◌&&◌, ◌+◌, ◌≤◌, ◌^◌, ◌==◌, IfOk, length};
 ghost use Rattle.std.specs.List.{AllByRecursion};
 ghost use Rattle.bound_cert.specs.ValidTrees.{steps_in};
@@ -8,9 +10,9 @@ use derivation::Step;
 use foundation::{OutOfMemory, Sequence};
 use std::alloc::Global;
 
-/// A certificate that is asked for: the leaves of the full tree of this depth, each closed by a list of steps of this length,
-/// which all name the one given line. In a broken one the last step of the last leaf names a line that is
-/// not there.
+/// A certificate that is asked for. It has the leaves of the full tree of this depth, each closed by
+/// `steps` steps, which all name the one given line. In a broken one the last step of the last leaf
+/// names a line that is not there.
 #[derive(Clone, Copy, Debug, PartialEq, Eq)]
 pub struct Plan {
     pub depth: u32,
@@ -19,7 +21,8 @@ pub struct Plan {
 }
 
 impl Plan {
-    /// The certificate.
+    /// The certificate of this plan: its leaves in order, from the path that keeps each field to the one
+    /// that changes each.
     pub fn cert(self, alloc: Global) -> Result<Cert, OutOfMemory>
         requires { self.depth ≤ 20 }
         ensures leaves { IfOk result (λ cert. cert.leaves ≡ leaves_of self) }
@@ -36,7 +39,7 @@ impl Plan {
         })
     }
 
-    // How many leaves it has.
+    // How many leaves the tree of this depth has.
     fn leaf_count(self) -> u64
         requires { self.depth ≤ 20 }
         ensures { result ≡ 2 ^ self.depth }
@@ -44,7 +47,7 @@ impl Plan {
         1 << self.depth
     }
 
-    // The leaf of this number, which may be the last.
+    // The leaf of this number, from 0. `last` says whether it is the last one, whose steps may be broken.
     fn leaf(self, alloc: Global, number: u64, last: bool) -> Result<Leaf, OutOfMemory>
         requires depth { self.depth ≤ 20 }
         requires last { last ≡ (number + 1 == 2 ^ self.depth) }
@@ -66,7 +69,8 @@ fn is_both(first: bool, second: bool) -> bool
     first && second
 }
 
-// The path of this length to the leaf of this number.
+// The path of `depth` letters to the leaf of this number: its bits, the highest first, where a 1 is a
+// changed field.
 fn path_to(alloc: Global, depth: u32, number: u64) -> Result<Vec<bool>, OutOfMemory>
     requires { depth ≤ 20 }
     ensures { IfOk result (λ letters. letters.items ≡ path_to depth number) }
@@ -78,7 +82,7 @@ fn path_to(alloc: Global, depth: u32, number: u64) -> Result<Vec<bool>, OutOfMem
     Ok(letters)
 }
 
-// So many steps, of which the last may be broken.
+// A list of `count` steps; where it is `broken`, the last names a line that is not there.
 fn steps_of(alloc: Global, count: u64, broken: bool) -> Result<Vec<Step>, OutOfMemory>
     ensures { IfOk result (λ steps. steps.items ≡ steps_of count broken) }
 {
@@ -89,7 +93,8 @@ fn steps_of(alloc: Global, count: u64, broken: bool) -> Result<Vec<Step>, OutOfM
     Ok(steps)
 }
 
-// The step that names the given line; in a broken list the last one names the line behind it.
+// The step that names the one given line. Where the list is `broken` and the step is its `last`, it
+// names a line behind that, which is not there.
 fn step_where(broken: bool, last: bool) -> Step
     ensures { result ≡ step_where broken last }
 {

@@ -19,19 +19,23 @@ use std::process::ExitCode;
 // The words that are in form.
 const USAGE: &str = "usage: certificate_bench leaves DEPTH | steps COUNT [broken]";
 
+// Prints the verdict on the certificate that the words ask for, or why none is told, and ends with the
+// status that says so.
 fn main(rt: HostRuntime) -> ExitCode {
     let alloc = rt.alloc();
     let told = told(&rt, alloc);
     leave(alloc, &mut OutPrinter::new(rt), USAGE, told)
 }
 
-// What is printed of the words after the program's name.
+// What is printed of the words after the program's name, or why nothing is. The faults are those of
+// `text_of`.
 fn told<R: std::rt::Env + AllocGlobal>(rt: &R, alloc: Global) -> Result<String, Fault> {
     let words = words_of(alloc, env::args(rt))?;
     text_of(alloc, &words)
 }
 
-// What is printed of these words.
+// What is printed of these words; `Fault::Usage` where they ask for nothing. `IsTold` says that the text
+// is the verdict on the certificate that is asked for.
 fn text_of(alloc: Global, words: &[String]) -> Result<String, Fault>
     ensures { IsTold result (plan_in (map string_bytes words.now)) }
 {

@@ -1,3 +1,6 @@
+//! The checking of the certificate, and the line of text that tells its verdict. The survey, the line
+//! and the record that it is about are made here. In contracts, `IsVerdict` says that the text tells the
+//! truth: the leaves are those of a valid tree, or where they are first at fault.
 ghost use Rattle.std.specs.Prelude.{◌≡◌, ◌+◌, ◌≤◌, ◌<◌, ◌∷◌, [], IfOk, IsTrue, None, length, string_bytes};
 ghost use Rattle.edit_line.specs.Lines.{AreOver};
 ghost use Rattle.edit_line.specs.Shapes.{shape_of};
@@ -17,9 +20,9 @@ use edit_model::{Field, Kind, Name, Row, Survey, Value};
 use foundation::OutOfMemory;
 use std::alloc::Global;
 
-/// The verdict on the certificate that is asked for, as a line of text. The certificate is about a survey
-/// with a numerical field for each step of its paths, one at least, the line `-1 >= 0`, which is usable, and a
-/// record of which nothing is known; there is said to be no correction.
+/// The verdict on the certificate that is asked for, as a line of text with its line feed. The survey
+/// has a numerical field for each letter of the paths, one at least; of the record nothing is known. The
+/// line `-1 >= 0` is usable. The certificate is said to show that there is no correction.
 pub fn plan_text(alloc: Global, plan: Plan) -> Result<String, OutOfMemory>
     requires { plan.depth ≤ 20 }
     ensures { IfOk result (λ text. IsVerdict (case_of plan.depth) (leaves_of plan) (string_bytes text)) }
@@ -33,7 +36,9 @@ pub fn plan_text(alloc: Global, plan: Plan) -> Result<String, OutOfMemory>
     verdict_text(alloc, &survey, &given, &usable, &row, &cert)
 }
 
-// The verdict on a certificate that there is no correction, as a line of text.
+// A line of text, with its line feed, that is the checker's verdict on a certificate that there is no
+// correction. It has how many leaves are accepted, or the number, from 1, of the refused leaf. The step
+// behind that is from 1, too, or 0 where the leaf itself is to blame.
 fn verdict_text(
     alloc: Global,
     survey: &Survey,
@@ -71,7 +76,8 @@ fn step_number(step: Option<u64>) -> u128
     }
 }
 
-// How many fields a survey has for a tree of this depth.
+// How many fields the survey has for a tree of this depth: as many as its paths have letters, and one
+// where they have none.
 fn field_count(depth: u32) -> usize
     requires { depth ≤ 20 }
     ensures count { result ≡ field_count depth }
@@ -80,7 +86,7 @@ fn field_count(depth: u32) -> usize
     if depth == 0 { 1 } else { depth as usize }
 }
 
-// A survey of this many numerical fields.
+// A survey of `count` numerical fields, named by the letters from `a` on, without rules.
 fn survey_of(alloc: Global, count: usize) -> Result<Survey, OutOfMemory>
     requires { count ≤ 20 }
     ensures { IfOk result (λ survey. survey ≡ survey_of (fields_of count) []) }
@@ -108,7 +114,7 @@ fn field_named(letter: u8) -> Field
     }
 }
 
-// The line `-1 >= 0` over the fields.
+// The line `-1 >= 0` over the `count` fields of the survey, which no point meets.
 fn false_line(alloc: Global, survey: &Survey, count: usize) -> Result<Line, OutOfMemory>
     requires { survey.now.fields ≡ fields_of count }
     ensures { IfOk result (λ line. line ≡ false_line count) }
@@ -117,7 +123,7 @@ fn false_line(alloc: Global, survey: &Survey, count: usize) -> Result<Line, OutO
     Ok(Line::new(survey, Vec::new(alloc), factors, -1, Relation::AtLeast))
 }
 
-// A record of which nothing is known.
+// A record without a value at any of the `count` fields of the survey.
 fn unknown_row(alloc: Global, survey: &Survey, count: usize) -> Result<Row, OutOfMemory>
     requires { survey.now.fields ≡ fields_of count }
     ensures row { IfOk result (λ row. IsRow survey.now.fields row) }

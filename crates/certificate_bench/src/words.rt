@@ -1,3 +1,4 @@
+//! What the words of the bench ask for: a certificate by its depth, its steps, and whether it is broken.
 ghost use Rattle.std.specs.Prelude.{◌≡◌, ◌≤◌, IfSome, map, string_bytes};
 ghost use Rattle.certificate_bench.specs.inner.Plans.{plan_in, plan_of};
 
@@ -10,8 +11,8 @@ const MOST_DEPTH: u64 = 20;
 /// The most steps of a leaf.
 const MOST_STEPS: u64 = 10_000_000;
 
-/// What the words `leaves DEPTH` or `steps COUNT` ask for, with `broken` behind them for a certificate whose
-/// last step is not valid.
+/// What the words `leaves DEPTH` or `steps COUNT` ask for, with `broken` behind them for a certificate
+/// whose last step is not valid. None for any other words.
 pub fn plan_of(words: &[String]) -> Option<Plan>
     ensures exact { result ≡ plan_in (map string_bytes words.now) }
     ensures depth { IfSome result (λ plan. plan.depth ≤ 20) }
@@ -25,7 +26,8 @@ pub fn plan_of(words: &[String]) -> Option<Plan>
     }
 }
 
-// What the verb and its number ask for.
+// What the verb and its number ask for. It is a tree of this depth whose leaves have one step each, or
+// one leaf of this many steps. None where the verb is another, or the number is none or too great.
 fn plan_with(verb: &str, count: &str, broken: bool) -> Option<Plan>
     ensures exact { result ≡ plan_of verb.now count.now broken }
     ensures depth { IfSome result (λ plan. plan.depth ≤ 20) }

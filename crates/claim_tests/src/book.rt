@@ -1,16 +1,19 @@
-//! Claims in a book of one thread.
+//! Claims in a book of one thread: who is given which donor, and how often.
 ghost use Rattle.std.specs.Prelude.{◌≡◌, IfOk};
 
 use donor_book::{Book, Claim};
 use std::alloc::Global;
 use std::test::Fail;
 
+// A ranking of donors with these numbers.
 fn donors(alloc: Global, numbers: &[u32]) -> Result<Vec<u32>, Fail>
     ensures { IfOk result (λ donors. donors.items ≡ numbers.now) }
 {
     Ok(Vec::from_slice(alloc, numbers)?)
 }
 
+// Two donors, each given once, and three rows that rank donor 1 first. The row that claims again has what
+// it had.
 #[test]
 fn a_row_is_given_the_first_donor_with_uses_left(rt: HostRuntime) -> Result<(), Fail> {
     let alloc = rt.alloc();
@@ -31,6 +34,8 @@ fn a_row_is_given_the_first_donor_with_uses_left(rt: HostRuntime) -> Result<(), 
     Ok(())
 }
 
+// One donor, given twice. A row that ranks nobody is given nobody, and so is the third that ranks the
+// donor.
 #[test]
 fn a_donor_is_given_as_often_as_the_limit(rt: HostRuntime) -> Result<(), Fail> {
     let alloc = rt.alloc();

@@ -1,5 +1,6 @@
-//! Tests over the books of donor claims: that of one thread, that which threads share, and a history that somebody else
-//! wrote. They stand in a crate of their own, since a crate with tests is proved twice.
+//! Tests over the books of donor claims: that of one thread, that which threads share, and a history
+//! that somebody else wrote. They stand in a crate of their own, since a crate with tests is proved
+//! twice.
 #![tactic(auto)]
 
 #[cfg(test)]

@@ -1,4 +1,4 @@
-//! Claims that somebody else wrote.
+//! A history of claims that somebody else wrote: which claim in it is the first that is not legal.
 ghost use Rattle.std.specs.Prelude.{◌<◌, All, IfOk};
 ghost use Rattle.donor_book.specs.Entries.{IsEntryWithin};
 
@@ -7,7 +7,8 @@ use foundation::Sequence;
 use std::alloc::Global;
 use std::test::Fail;
 
-// The entry of a row that ranks donor 1 before donor 0.
+// The claim of the row `row_no` that ranks donor 1 before donor 0, with the reply that it had.
+// `IsEntryWithin 2 4` says that its numbers are of 2 donors and 4 rows.
 fn entry(alloc: Global, row_no: u32, reply: Option<u32>) -> Result<Entry, Fail>
     requires { row_no < 4 }
     ensures { IfOk result (IsEntryWithin 2 4) }
@@ -20,6 +21,7 @@ fn entry(alloc: Global, row_no: u32, reply: Option<u32>) -> Result<Entry, Fail>
     })
 }
 
+// The claims of these rows, with their replies; each ranks donor 1 before donor 0.
 fn entries(alloc: Global, claims: &[(u32, Option<u32>)]) -> Result<Vec<Entry>, Fail>
     requires { All (λ claim. claim.0 < 4) claims.now }
     ensures { IfOk result (λ entries. All (IsEntryWithin 2 4) entries.items) }
@@ -31,13 +33,16 @@ fn entries(alloc: Global, claims: &[(u32, Option<u32>)]) -> Result<Vec<Entry>, F
     Ok(entries)
 }
 
-// The first illegal claim where there are two donors, each given once.
+// The place of the first illegal claim, where there are two donors, each given once, and four rows. None
+// where all are legal.
 fn illegal(alloc: Global, claims: &[(u32, Option<u32>)]) -> Result<Option<usize>, Fail>
     requires { All (λ claim. claim.0 < 4) claims.now }
 {
     Ok(first_illegal(alloc, &entries(alloc, claims)?, 1, 2, 4)?)
 }
 
+// A history that is legal, and four that are not. These give a donor too often, leave a free one out,
+// have a row twice, or name a donor that is not ranked.
 #[test]
 fn the_first_illegal_claim_is_told(rt: HostRuntime) -> Result<(), Fail> {
     let alloc = rt.alloc();

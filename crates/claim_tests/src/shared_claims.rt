@@ -1,5 +1,5 @@
-//! Four threads claim a donor for each of 10,000 rows, each thread in an order of its own. A book of one thread, for which the
-//! rows claim again in the order of the history, answers the same.
+//! Four threads claim a donor for each of 10,000 rows, each thread in an order of its own. A book of one
+//! thread, for which the rows claim again in the order of the history, answers the same.
 ghost use Rattle.std.specs.Prelude.{◌≡◌, ◌<◌};
 ghost use Rattle.std.specs.List.{All};
 
@@ -11,12 +11,16 @@ use std::test::Fail;
 use std::thread;
 use std::thread::Threads;
 
+// How many rows claim.
 const ROWS: u32 = 10_000;
 
+// How many donors there are: too few for all rows, even if each is given twice.
 const DONORS: u32 = 3_000;
 
+// How often a donor is given at most.
 const LIMIT: u32 = 2;
 
+// How many threads claim.
 const THREADS: u32 = 4;
 
 /// How many threads have begun, and how many claims of all threads were answered by a donor, and by nobody.
@@ -27,7 +31,7 @@ struct Told {
     nobody: AtomicU64,
 }
 
-// The donors that a row ranks.
+// The four donors that a row ranks, spread so that rows contend for them.
 fn ranking_of(row_no: u32) -> [u32; 4]
     requires { row_no < 10000 }
     ensures { All (λ donor. donor < 3000) result }
@@ -40,7 +44,8 @@ fn ranking_of(row_no: u32) -> [u32; 4]
     ]
 }
 
-// Claims a donor for each row, from this one on and then from the first.
+// Claims a donor for each row, from the row `first` on, past the last one on from row 0, and counts the
+// answers. `pass` is one of the book. A row that another thread claimed for before counts nothing.
 fn claim_all(book: &SharedBook, mut pass: Pass, first: u32, told: &Told) -> Pass
     requires book { pass.book ≡ book.now }
     requires terms { (book.now.terms.rows ≡ 10000) × (book.now.terms.donors ≡ 3000) }
@@ -68,7 +73,8 @@ fn wait_for_all(told: &Told) {
     }
 }
 
-// The history of the book for which four threads claim.
+// The history of the book for which four threads claim, each beginning at a row of its own, 2500 rows
+// apart.
 fn claims_by_four<R: Threads + Sync>(
     rt: &R,
     alloc: Global,
@@ -91,6 +97,7 @@ fn claims_by_four<R: Threads + Sync>(
     Ok(book.close(passes))
 }
 
+// The answer that a row has from a book of one thread where its claim in the history had this reply.
 fn answer_of(reply: Option<u32>) -> Claim {
     match reply {
         Some(donor) => Claim::Given(donor),
@@ -98,7 +105,7 @@ fn answer_of(reply: Option<u32>) -> Claim {
     }
 }
 
-// Whether a book of one thread answers each claim as it was answered, in this order.
+// Whether a book of one thread answers each claim of the history, in its order, as it was answered there.
 fn is_answered_again(alloc: Global, history: &[Won]) -> Result<bool, OutOfMemory> {
     let mut book = Book::start(alloc, DONORS, LIMIT, ROWS)?;
     for won in history {
@@ -113,7 +120,7 @@ fn is_answered_again(alloc: Global, history: &[Won]) -> Result<bool, OutOfMemory
     Ok(true)
 }
 
-// How often the donor was given that was given most.
+// How often the donor was given, in the history, that was given most.
 fn most_given(alloc: Global, history: &[Won]) -> Result<u32, OutOfMemory> {
     let mut uses = vec![in alloc; 0u32; DONORS as usize]?;
     let mut most = 0;
@@ -129,6 +136,8 @@ fn most_given(alloc: Global, history: &[Won]) -> Result<u32, OutOfMemory> {
     Ok(most)
 }
 
+// Each row has claimed once, a book of one thread answers alike, and what the threads were told adds up
+// to the history.
 #[test]
 fn four_threads_are_answered_as_one(rt: HostRuntime) -> Result<(), Fail> {
     let told = Told {

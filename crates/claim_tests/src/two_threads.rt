@@ -1,4 +1,5 @@
-//! Claims in a book that two threads share.
+//! Claims in a book that two threads share: of two rows that want one donor, and of one row that claims
+//! twice.
 ghost use Rattle.std.specs.Prelude.{◌≡◌, ◌<◌, ◌≤◌, [], ◌∷◌, length, IfOk};
 ghost use Rattle.std.specs.List.{All};
 
@@ -8,7 +9,8 @@ use std::alloc::Global;
 use std::test::Fail;
 use std::thread::{Threads, join};
 
-// A claim of the one donor, with its answer.
+// Claims the one donor, number 0, for the row `row_no`, from this pass of the book, and gives back the
+// pass with the answer.
 fn claim_first(book: &SharedBook, mut pass: Pass, row_no: u32) -> (Pass, Claim)
     requires book { pass.book ≡ book.now }
     requires row { row_no < book.now.terms.rows }
@@ -19,6 +21,7 @@ fn claim_first(book: &SharedBook, mut pass: Pass, row_no: u32) -> (Pass, Claim)
     (pass, answer)
 }
 
+// The list of two passes, for the book to be closed with.
 fn pair(alloc: Global, one: Pass, two: Pass) -> Result<Vec<Pass>, OutOfMemory>
     ensures { IfOk result (λ v. v.items ≡ one ∷ two ∷ []) }
 {
@@ -28,7 +31,8 @@ fn pair(alloc: Global, one: Pass, two: Pass) -> Result<Vec<Pass>, OutOfMemory>
     Ok(both)
 }
 
-// Two threads claim the one donor for these rows.
+// Two threads claim the one donor, which is given once, for the rows `first` and `second`: the history,
+// and the answer to each.
 fn claim_by_two<R: Threads + Sync>(
     rt: &R,
     alloc: Global,
@@ -56,6 +60,7 @@ fn claim_by_two<R: Threads + Sync>(
     Ok((book.close(pair(alloc, one, two)?), a, b))
 }
 
+// One row is given the donor and the other nobody, whichever thread comes first.
 #[test]
 fn two_rows_share_one_donor(rt: HostRuntime) -> Result<(), Fail> {
     let (history, a, b) = claim_by_two(&rt, rt.alloc(), 0, 1)?;
@@ -67,6 +72,7 @@ fn two_rows_share_one_donor(rt: HostRuntime) -> Result<(), Fail> {
     Ok(())
 }
 
+// One thread's claim is answered, and the other's is told what the row had.
 #[test]
 fn one_row_claims_once(rt: HostRuntime) -> Result<(), Fail> {
     let (history, a, b) = claim_by_two(&rt, rt.alloc(), 0, 0)?;

@@ -1,5 +1,6 @@
-//! A program that draws tickets and claims donors with some threads, so that a draw and a claim can be timed. What a
-//! thread does is in `worker`; the threads are run, and what they did is counted, in `tally`.
+//! A program that draws tickets and claims donors with some threads, so that a draw and a claim can be
+//! timed. What a thread does is in `worker`; the threads are run, and what they did is counted, in
+//! `tally`.
 #![tactic(auto)]
 
 ghost use Rattle.std.specs.Prelude.{◌≡◌, IfErr, IfOk, string_bytes};
@@ -24,13 +25,15 @@ use tally::{Plan, carry_out};
 // The words that are in form.
 const USAGE: &str = "usage: claims_bench [COUNT THREADS]";
 
+// Prints what was drawn and claimed for the words, or why nothing is told, and ends with the status that
+// says so.
 fn main(rt: HostRuntime) -> ExitCode {
     let alloc = rt.alloc();
     let told = told(&rt, alloc);
     leave(alloc, &mut OutPrinter::new(rt), USAGE, told)
 }
 
-// What is printed of the words after the program's name.
+// What is printed of the words after the program's name; `Fault::Usage` where they are not in form.
 fn told<R: std::rt::Env + AllocGlobal + Threads + Sync>(
     rt: &R,
     alloc: Global,
@@ -42,7 +45,8 @@ fn told<R: std::rt::Env + AllocGlobal + Threads + Sync>(
     }
 }
 
-// What is printed of this plan: the counts of what was drawn and claimed.
+// What is printed of this plan: the counts of what was drawn and claimed. The plan is served
+// (`IsServed`): at most 10^7 tickets, and 1 to 64 threads. Memory alone may be refused.
 fn text_of<R: Threads + Sync>(rt: &R, alloc: Global, plan: Plan) -> Result<String, Fault>
     requires { IsServed plan }
     ensures text { IfOk result (λ text. IsTold plan (string_bytes text)) }
@@ -52,7 +56,8 @@ fn text_of<R: Threads + Sync>(rt: &R, alloc: Global, plan: Plan) -> Result<Strin
     Ok(counts_text(alloc, tally.drawn, &tally.history)?)
 }
 
-// How many numbers were drawn, how many rows have claimed, and how many of these were given a donor, and nobody.
+// The counts as a line of text, with its line feed. They are those of the numbers drawn, of the rows
+// that have claimed, and of those that were given a donor, and nobody.
 fn counts_text(alloc: Global, drawn: u32, history: &[Won]) -> Result<String, OutOfMemory>
     ensures { IfOk result (λ text. string_bytes text ≡ counts_text drawn history.now) }
 {

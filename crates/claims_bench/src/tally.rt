@@ -1,3 +1,7 @@
+//! The bench itself: threads draw tickets and claim donors for the rows of these, and what they drew and
+//! claimed is brought together. In contracts, `Fits` says that the book has a row for each ticket, and
+//! as many donors as `donors_for` tells. `IsReady` says that a worker draws from this row of tickets and
+//! claims from this book. `HasRun` says that it also has drawn until none was left.
 ghost use Rattle.std.specs.Prelude.{◌≡◌, IfOk, length};
 ghost use Rattle.std.specs.List.{All};
 ghost use Rattle.claims_bench.specs.inner.Plans.{IsServed};
@@ -15,7 +19,7 @@ use ticket_row::{Seat, Tickets};
 /// How often a donor is given at most.
 const LIMIT: u32 = 1;
 
-/// How many tickets there are, and rows that claim, and how many threads draw and claim them.
+/// How many tickets there are, each the number of a row that claims, and how many threads draw them.
 #[derive(Clone, Copy, Debug, PartialEq, Eq)]
 pub struct Plan {
     pub count: u32,
@@ -29,7 +33,9 @@ pub struct Tally {
     pub history: Vec<Won>,
 }
 
-/// Draws the tickets and claims for their rows with the threads of the plan, and tells what was drawn and claimed.
+/// Draws the tickets and claims for their rows with the threads of the plan, and tells what was drawn
+/// and claimed. `IsServed` bounds the plan: at most 10^7 tickets, and 1 to 64 threads. `IsTally` says
+/// that all tickets were drawn, and that the claims are a legal history.
 pub fn carry_out<R: Threads + Sync>(rt: &R, alloc: Global, plan: Plan) -> Result<Tally, OutOfMemory>
     requires { IsServed plan }
     ensures { IfOk result (IsTally plan) }
@@ -43,14 +49,15 @@ pub fn carry_out<R: Threads + Sync>(rt: &R, alloc: Global, plan: Plan) -> Result
         plan.threads,
     )?;
     let ran = run_all(rt, &tickets, &book, workers_of(alloc, seats, passes)?)?;
-    let (seats, passes) = taken_apart(alloc, ran)?;
+    let (seats, passes) = seats_and_passes(alloc, ran)?;
     Ok(Tally {
         drawn: tickets.close(seats),
         history: book.close(passes),
     })
 }
 
-// Each worker draws and claims in a thread of its own, to the end.
+// Has each worker draw and claim in a thread of its own, until no ticket is left, and gives the workers
+// back.
 fn run_all<R: Threads + Sync>(
     rt: &R,
     tickets: &Tickets,
@@ -76,7 +83,7 @@ fn run_all<R: Threads + Sync>(
     )?)
 }
 
-// A worker for each seat, with the pass at its place.
+// A worker for each seat, with the pass at the same place of the other list, which is as long.
 fn workers_of(
     alloc: Global,
     seats: Vec<Seat>,
@@ -97,8 +104,11 @@ fn workers_of(
     Ok(workers)
 }
 
-// The seats and the passes of the workers.
-fn taken_apart(alloc: Global, workers: Vec<Worker>) -> Result<(Vec<Seat>, Vec<Pass>), OutOfMemory>
+// The seats of the workers and their passes, in order: the tickets and the book are closed with these.
+fn seats_and_passes(
+    alloc: Global,
+    workers: Vec<Worker>,
+) -> Result<(Vec<Seat>, Vec<Pass>), OutOfMemory>
     ensures seats { IfOk result (λ parts. parts.0.items ≡ seats_of workers.items) }
     ensures passes { IfOk result (λ parts. parts.1.items ≡ passes_of workers.items) }
 {

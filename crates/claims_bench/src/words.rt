@@ -1,9 +1,10 @@
+//! What the words of the bench ask for: how many tickets, and how many threads.
 ghost use Rattle.std.specs.Prelude.{◌≤◌, IfSome, map, string_bytes};
 ghost use Rattle.claims_bench.specs.inner.Plans.{IsAsked, IsNumber, IsServed};
 
 use crate::tally::Plan;
 
-/// What is done where no words say otherwise.
+/// What is done where there are no words.
 const SMALL: Plan = Plan {
     count: 60,
     threads: 4,
@@ -15,7 +16,8 @@ const MOST_COUNT: u32 = 10_000_000;
 /// The most threads.
 const MOST_THREADS: u32 = 64;
 
-/// What the words `COUNT THREADS` ask for, and something small where there are none.
+/// What the words `COUNT THREADS` ask for, and `SMALL` where there are none. None where there are
+/// others, or a number is 0 or too great: above `MOST_COUNT` or `MOST_THREADS`.
 pub fn plan_of(words: &[String]) -> Option<Plan>
     ensures asked { IfSome result (IsAsked (map string_bytes words.now)) }
     ensures served { IfSome result IsServed }
@@ -30,7 +32,8 @@ pub fn plan_of(words: &[String]) -> Option<Plan>
     }
 }
 
-// The number that is written in digits, if it is at least 1 and at most so much.
+// The number that the text writes, with or without a plus sign. None where it writes none, or that is 0
+// or above `most`.
 fn number_in(text: &str, most: u32) -> Option<u32>
     ensures number { IfSome result (IsNumber text.now) }
     ensures within { IfSome result (λ number. (1 ≤ number) × (number ≤ most)) }

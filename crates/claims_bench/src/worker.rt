@@ -1,3 +1,4 @@
+//! What one thread does: it draws a row's number, claims a donor for the row, and so on.
 ghost use Rattle.std.specs.Prelude.{◌≡◌, ◌+◌, ◌<◌, ◌≤◌};
 ghost use Rattle.std.specs.List.{All};
 ghost use Rattle.claims_bench.specs.inner.Rankings.{donors_for, ranking_of};
@@ -6,7 +7,7 @@ ghost use Rattle.claims_bench.specs.inner.Workers.{Fits, HasRun, IsReady};
 use donor_book::{Pass, SharedBook};
 use ticket_row::{Seat, Tickets};
 
-/// From what one thread draws and claims.
+/// The places from which one thread draws (`seat`) and claims (`pass`).
 #[derive(Drop)]
 pub struct Worker {
     pub seat: Seat,
@@ -14,7 +15,8 @@ pub struct Worker {
 }
 
 impl Worker {
-    /// Draws numbers until none is left, and claims a donor for the row of each.
+    /// Draws numbers until none is left, and claims a donor for the row of each. The answers stand in
+    /// the book alone. `Fits`, `IsReady` and `HasRun` are told in `tally`.
     pub fn run(&mut self, tickets: &Tickets, book: &SharedBook)
         requires fits { Fits tickets.now.row book.now }
         requires ready { IsReady tickets.now.row book.now self.old }
@@ -26,7 +28,8 @@ impl Worker {
     }
 }
 
-/// How many donors there are, by the number of rows: as many, and as the last 4 rows need.
+/// How many donors there are for `rows` rows: 3 more, since the last rows rank up to 3 donors past their
+/// own number.
 pub fn donors_for(rows: u32) -> u32
     requires { rows < 4000000000 }
     ensures { result ≡ donors_for rows }
@@ -34,8 +37,8 @@ pub fn donors_for(rows: u32) -> u32
     rows + 3
 }
 
-// The donors that a row ranks: the 4 that it shares with 3 other rows. So each row is given one, in whatever order the
-// rows claim.
+// The 4 donors that a row ranks: those whose numbers its group of 4 rows has. So each row is given one,
+// in whatever order the rows claim.
 fn ranking_of(row_no: u32) -> [u32; 4]
     requires { row_no < 4000000000 }
     ensures ranking { result ≡ ranking_of row_no }

@@ -1,4 +1,5 @@
-use Rattle.std.proofs.Common.{◌≡◌, ◌≢◌, ℕ, suc, ◌+◌, ◌<◌, ◌≤◌, ◌&&◌, Bool, true, not, All, AllPairs, List, [], ◌∷◌, ◌++◌, get_or, length, map, take, refl, sym, ap, ◌∙◌, subst, arith}
+use Rattle.std.proofs.Common.{◌≡◌, ◌≢◌, ℕ, suc, ◌+◌, ◌<◌, ◌≤◌, ◌&&◌, Bool, true, not, All, AllPairs, List, [], ◌∷◌, ◌++◌, get_or, length, map, take, refl, sym}
+use Rattle.std.proofs.Common.{ap, ◌∙◌, subst, arith}
 use Rattle.std.specs.Prelude.{IsTrue, codes}
 use Rattle.std.specs.List.{list_all}
 use Rattle.std.specs.Str.{bytes_eq}
@@ -28,17 +29,21 @@ all-apart [] h = λ i j d earlier within. absurd (omega arith)
 all-apart (name ∷ names) h =
     let both = and_parts (list_all (λ (n : List ℕ). not (bytes_eq name n)) names) (are_apart names) h in
     AllPairs-cons (λ (a : List ℕ) (b : List ℕ). a ≢ b) name names
-    (All-weaker (λ (n : List ℕ). not (bytes_eq name n) ≡ true) (λ (n : List ℕ). name ≢ n) (differs name) names (AllPass-from_list_all (λ (n : List ℕ). not (bytes_eq name n)) names both.0))
+    (All-weaker (λ (n : List ℕ). not (bytes_eq name n) ≡ true) (λ (n : List ℕ). name ≢ n) (differs name) names
+    (AllPass-from_list_all (λ (n : List ℕ). not (bytes_eq name n)) names both.0))
     (all-apart names both.1)
   where
     differs : (a b : List ℕ) → not (bytes_eq a b) ≡ true → a ≢ b
     differs a b h same = let equal : bytes_eq a b ≡ true = (bytes_eq-Decides a b).1 same in absurd (cc (ap not equal, h))
 
 -- fields differ by name where the names in the list differ
-apart-fields : (fields : List Field) → AllPairs (λ (a : List ℕ) (b : List ℕ). a ≢ b) (map (λ (f : Field). f.name) fields) → AllPairs (λ (f : Field) (g : Field). f.name ≢ g.name) fields
+apart-fields : (fields : List Field) → AllPairs (λ (a : List ℕ) (b : List ℕ). a ≢ b) (map (λ (f : Field). f.name) fields)
+    → AllPairs (λ (f : Field) (g : Field). f.name ≢ g.name) fields
 apart-fields fields differ i j d earlier within same =
-    let name : (k : ℕ) → k < length fields → get_or (map (λ (f : Field). f.name) fields) k [] ≡ (get_or fields k d).name = λ k below. get_or-map (λ (f : Field). f.name) fields k d [] below in
-    differ i j [] earlier (omega (arith, within, length-map fields (λ (f : Field). f.name))) (name i (omega (arith, earlier, within)) ∙ same ∙ sym (name j within))
+    let name : (k : ℕ) → k < length fields → get_or (map (λ (f : Field). f.name) fields) k [] ≡ (get_or fields k d).name =
+    λ k below. get_or-map (λ (f : Field). f.name) fields k d [] below in
+    differ i j [] earlier (omega (arith, within, length-map fields (λ (f : Field). f.name)))
+    (name i (omega (arith, earlier, within)) ∙ same ∙ sym (name j within))
 
 -- ---- the letters
 
@@ -63,7 +68,8 @@ first-apart n few = all_pairs_push (λ (a : List ℕ) (b : List ℕ). a ≢ b) (
 
     numbers : AllPairs (λ (a : List ℕ) (b : List ℕ). a ≢ b) (take n letter_names)
     numbers i j d earlier within same =
-        names-apart (suc i) (suc j) d (omega arith) (omega (arith, within, long, few)) (sym (get_or-take n letter_names i d (omega (arith, earlier, within, long))) ∙ same ∙ get_or-take n letter_names j d (omega (arith, within, long)))
+        names-apart (suc i) (suc j) d (omega arith) (omega (arith, within, long, few))
+        (sym (get_or-take n letter_names i d (omega (arith, earlier, within, long))) ∙ same ∙ get_or-take n letter_names j d (omega (arith, within, long)))
 
     last : (k : ℕ) (d : List ℕ) → k < length (take n letter_names) → get_or (take n letter_names) k d ≢ codes "G"
     last k d below same =
@@ -72,7 +78,8 @@ first-apart n few = all_pairs_push (λ (a : List ℕ) (b : List ℕ). a ≢ b) (
 -- ---- the fields
 
 -- a field more has the next letter for its name
-pub name-more : (i : ℕ) (before after : List Field) (field : Field) → i < 32 → after ≡ before ++ field ∷ [] → field.name ≡ get_or LETTERS.now i 0 ∷ [] → map (λ (f : Field). f.name) before ≡ take i letter_names
+pub name-more : (i : ℕ) (before after : List Field) (field : Field) → i < 32 → after ≡ before ++ field ∷ [] → field.name ≡ get_or LETTERS.now i 0 ∷ []
+    → map (λ (f : Field). f.name) before ≡ take i letter_names
     → map (λ (f : Field). f.name) after ≡ take (i + 1) letter_names
 name-more i before after field below items name names =
     ap (λ (fs : List Field). map (λ (f : Field). f.name) fs) items ∙ map-append (λ (f : Field). f.name) before (field ∷ [])
@@ -86,20 +93,23 @@ form-more before after field items form forms = subst (λ (fs : List Field). All
 
 -- numerical fields with the first letters for names, and a field of codes, are well formed
 pub fields-well_formed : (n : ℕ) (before after : List Field) (last : Field) (rules : List Rule) → n ≤ 32 → after ≡ before ++ last ∷ [] → rules ≡ []
-    → map (λ (f : Field). f.name) before ≡ take n letter_names → All IsField before → last.name ≡ codes "G" → IsField last → IsWellFormed (survey_of after rules)
+    → map (λ (f : Field). f.name) before ≡ take n letter_names → All IsField before → last.name ≡ codes "G" → IsField last
+    → IsWellFormed (survey_of after rules)
 fields-well_formed n before after last rules few items none names forms last_name form =
     subst (λ (fs : List Field). IsWellFormed (survey_of fs rules)) (sym items) (
     subst (λ (rs : List Rule). IsWellFormed (survey_of (before ++ last ∷ []) rs)) (sym none) (record {
       few_fields = omega (arith, few, many, length-append before (last ∷ []));
       few_rules = omega arith;
-      names = apart-fields (before ++ last ∷ []) (subst (λ (ns : List (List ℕ)). AllPairs (λ (a : List ℕ) (b : List ℕ). a ≢ b) ns) (sym all_names) (first-apart n few));
+      names = apart-fields (before ++ last ∷ []) (subst (λ (ns : List (List ℕ)). AllPairs (λ (a : List ℕ) (b : List ℕ). a ≢ b) ns) (sym all_names)
+          (first-apart n few));
       fields = All-push IsField before last forms form;
       rules = All-nil (IsRule (before ++ last ∷ []));
     })
     )
   where
     all_names : map (λ (f : Field). f.name) (before ++ last ∷ []) ≡ take n letter_names ++ codes "G" ∷ []
-    all_names = map-append (λ (f : Field). f.name) before (last ∷ []) ∙ ap (λ (ns : List (List ℕ)). ns ++ last.name ∷ []) names ∙ ap (λ (l : List ℕ). take n letter_names ++ l ∷ []) last_name
+    all_names = map-append (λ (f : Field). f.name) before (last ∷ []) ∙ ap (λ (ns : List (List ℕ)). ns ++ last.name ∷ []) names
+        ∙ ap (λ (l : List ℕ). take n letter_names ++ l ∷ []) last_name
 
     many : length before ≡ n
     many = sym (length-map before (λ (f : Field). f.name)) ∙ ap (λ (ns : List (List ℕ)). length ns) names ∙ length-take-le n letter_names few

@@ -1,3 +1,4 @@
+//! The generated edits that the bench eliminates fields from, and the survey that they are over.
 ghost use Rattle.std.specs.Prelude.{◌≡◌, ◌<◌, ◌≤◌, ◌%◌, ◌+◌, ◌++◌, [], ◌∷◌, IfOk, IsTrue, OnOk, codes};
 ghost use Rattle.edit_line.specs.EditSets.{edits_of};
 ghost use Rattle.edit_line.specs.Domains.{domains};
@@ -10,17 +11,17 @@ use edit_model::{Field, Kind, Name, Survey};
 use foundation::{OutOfMemory, Sequence};
 use std::alloc::Global;
 
-/// Names of numerical fields.
+/// Names of numerical fields, each of one letter. `G` is left for the field of codes.
 const LETTERS: &[u8; 32] = b"abcdefghijklmnopqrstuvwxyzABCDEF";
 
 /// The first number that is drawn.
 const FIRST_DRAW: u32 = 1;
 
-/// A generated system of edits: for each ordered pair of numerical fields x and y the line
-/// `x - y + c >= 0`, with a drawn number c from 0 to 999. Over n fields there are `n (n - 1)` lines. Without
-/// one of the fields each of its n - 1 lower lines is combined with each of its n - 1 upper ones; n - 1 of
-/// these pairs give trivial lines, and of two lines on the same two fields the tighter stays. So what is
-/// left is a system of the same form over n - 1 fields, as long as no set of codes stands in a line.
+/// A generated system of edits. For each ordered pair of numerical fields x and y it has
+/// `x - y + c >= 0`, with a drawn number c from 0 to 999: `n (n - 1)` lines over n fields. When a field
+/// is eliminated, each of its n - 1 lower lines is combined with each of its n - 1 upper ones. Of these
+/// pairs n - 1 give trivial lines, and of two lines on the same two fields the tighter stays. So a
+/// system of the same form over n - 1 fields is left, where no set of codes stands in a line.
 #[derive(Clone, Copy, Debug, PartialEq, Eq)]
 pub enum Differences {
     /// Over 32 fields, whatever the code.
@@ -40,7 +41,8 @@ impl Differences {
         }
     }
 
-    /// The edits.
+    /// The edits, generated from `FIRST_DRAW`: the same ones at each run. Each is numbered by its place,
+    /// from 0.
     pub fn edits(self, alloc: Global) -> Result<Edits, OutOfMemory>
         ensures { IfOk result (λ edits. edits ≡ edits_of (shape_with (numbers_of self)) (differences self (count_of self))) }
     {
@@ -56,7 +58,8 @@ impl Differences {
         Edits::new(alloc, &survey, lines)
     }
 
-    // The line at the place, with what is drawn for it.
+    // The line at `place` in the list, from 0. `draw` is the number that is drawn for it, from which its
+    // constant and its set of codes come.
     fn line(self, alloc: Global, shape: Shape, place: usize, draw: u32) -> Result<Line, OutOfMemory>
         requires shape { domains shape ≡ shape_with (numbers_of self) }
         requires place { place < count_of self }
@@ -72,7 +75,8 @@ impl Differences {
         Ok(Line::over(shape, sets, factors, constant, Relation::AtLeast))
     }
 
-    // The set of codes, as bits, of a line for which this number is drawn.
+    // The set of codes, as bits, of a line for which this number is drawn. It is whole (255) for `Plain`,
+    // and never empty.
     fn set(self, draw: u32) -> u64
         ensures { result ≡ set_of self draw }
     {
@@ -83,7 +87,7 @@ impl Differences {
     }
 }
 
-// The number that is drawn after this one.
+// The number that is drawn after this one, by a linear congruence. It stays below 65537.
 fn next_draw(draw: u32) -> u32
     requires { draw < 65537 }
     ensures next { result ≡ next_draw draw }
@@ -92,7 +96,8 @@ fn next_draw(draw: u32) -> u32
     (75 * draw + 74) % 65537
 }
 
-// The field that the line at the place bounds from below.
+// The number, from 0, of the field that the line at `place` bounds from below. Each of the `numbers`
+// fields has `numbers - 1` lines in turn.
 fn lower_field(numbers: usize, place: usize) -> usize
     requires { 2 ≤ numbers }
     ensures { result ≡ lower_field numbers place }
@@ -100,7 +105,8 @@ fn lower_field(numbers: usize, place: usize) -> usize
     place / (numbers - 1)
 }
 
-// The field that the line at the place bounds from above.
+// The number, from 0, of the field that the line at `place` bounds from above: each field in turn but
+// its lower one.
 fn upper_field(numbers: usize, place: usize) -> usize
     requires { 2 ≤ numbers }
     ensures { result ≡ upper_field numbers place }
@@ -113,7 +119,8 @@ fn upper_field(numbers: usize, place: usize) -> usize
     }
 }
 
-// The factors of the difference of two fields.
+// The factors, of `numbers` fields, of the difference of the fields `i` and `j`: 1 for `i`, -1 for `j`,
+// and 0 elsewhere.
 fn difference(alloc: Global, numbers: usize, i: usize, j: usize) -> Result<Vec<i128>, OutOfMemory>
     requires i { i < numbers }
     requires j { j < numbers }
@@ -125,7 +132,7 @@ fn difference(alloc: Global, numbers: usize, i: usize, j: usize) -> Result<Vec<i
     Ok(factors)
 }
 
-/// A survey of this many numerical fields and a field of 8 codes.
+/// A survey of `numbers` numerical fields and, behind them, a field of 8 codes. It has no rules.
 pub fn survey_of(alloc: Global, numbers: usize) -> Result<Survey, OutOfMemory>
     requires { numbers ≤ 32 }
     ensures { IfOk result (λ survey. shape_of survey.fields ≡ shape_with numbers) }
@@ -138,7 +145,7 @@ pub fn survey_of(alloc: Global, numbers: usize) -> Result<Survey, OutOfMemory>
     Survey::of(alloc, fields, Vec::new(alloc))
 }
 
-// A numerical field.
+// The numerical field with this letter for its name.
 fn number_field(letter: u8) -> Field
     requires { IsTrue (is_letter letter) }
     ensures domain { domain_of result.kind ≡ Numerical }
@@ -152,7 +159,7 @@ fn number_field(letter: u8) -> Field
     }
 }
 
-// A field of the codes a to h.
+// The field `G` of the codes a to h.
 fn code_field(alloc: Global) -> Result<Field, OutOfMemory>
     ensures domain { IfOk result (λ field. domain_of field.kind ≡ Categorical 8) }
     ensures name { IfOk result (λ field. field.name ≡ codes "G") }
@@ -177,7 +184,7 @@ fn code_field(alloc: Global) -> Result<Field, OutOfMemory>
     })
 }
 
-// The name of one letter.
+// The name that is this one letter.
 fn name_of(letter: u8) -> Name
     ensures { result ≡ letter ∷ [] }
 {

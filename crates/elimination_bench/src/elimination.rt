@@ -1,3 +1,7 @@
+//! What is done with generated edits: numerical fields are eliminated from them, and what is left is
+//! counted. Each call makes the text that the program prints. `differences` says which edits are
+//! generated, and the definition `numbers_of` how many numerical fields they have. `IsTold` says that
+//! the text, or the overflow, is that of the definition; want of memory may always come.
 ghost use Rattle.std.specs.Prelude.{◌≡◌, ◌<◌, ◌≤◌, ◌++◌, [], ◌∷◌, ℕ, Ok, Err, IfOk, IfErr, string_bytes, true};
 ghost use Rattle.std.specs.Arc.{arc_value};
 ghost use Rattle.edit_model.specs.FieldSets.{has_number};
@@ -20,7 +24,8 @@ use std::marker::Brand;
 use std::sync::Arc;
 use std::sync::ledger::{Blank, Ledger};
 
-/// How many lines the system of the edits has without its first fields, by their number, as a line of text.
+/// How many edits there are, and how many lines are left without the first `count` fields, as a line of
+/// text with its line feed. `Fault::Overflow` where a number of a combination leaves the range.
 pub fn fold_text(alloc: Global, differences: Differences, count: u32) -> Result<String, Fault>
     requires { count ≤ numbers_of differences }
     ensures { IsTold result (fold_answer differences count) }
@@ -35,7 +40,10 @@ pub fn fold_text(alloc: Global, differences: Differences, count: u32) -> Result<
     Ok(format!(in alloc; "fields {count} edits {given} lines {left}\n")?)
 }
 
-/// The pairs and the lines of each step of that fold, as lines of text.
+/// How many pairs are combined and how many lines are left, a line of text for each of the first `count`
+/// fields. These are eliminated one after the other from the edits that `differences` generates, each of
+/// which bounds the difference of two fields. `Fault::Overflow` where a number of a combination leaves
+/// the range.
 pub fn pairs_text(alloc: Global, differences: Differences, count: u32) -> Result<String, Fault>
     requires some { 1 ≤ count }
     requires few { count ≤ numbers_of differences }
@@ -50,7 +58,9 @@ pub fn pairs_text(alloc: Global, differences: Differences, count: u32) -> Result
     Ok(text)
 }
 
-// The lines of the step at the field; a line of text is added.
+// The lines that are left of these when the field is eliminated. A line of text is appended that says
+// how many, and how many pairs are combined. `Fault::Overflow` where a number of a combination leaves
+// the range. `OneShape` says that all lines are over the same fields.
 fn take_step(
     alloc: Global,
     lines: &[Derived],
@@ -69,7 +79,8 @@ fn take_step(
     Ok(next)
 }
 
-// What is told of a system that is not made.
+// Why a bench tells nothing of a system that is not made: a number left the range, wherever that was, or
+// memory was refused.
 fn system_fault(fault: SystemFault) -> Fault
     ensures { result ≡ system_fault_of fault }
 {
@@ -79,7 +90,8 @@ fn system_fault(fault: SystemFault) -> Fault
     }
 }
 
-// What is told of a step that is not made.
+// Why a bench tells nothing of a step that is not made: a number left the range, wherever that was, or
+// memory was refused.
 fn step_fault(fault: StepFault) -> Fault
     ensures { result ≡ step_fault_of fault }
 {
@@ -89,7 +101,9 @@ fn step_fault(fault: StepFault) -> Fault
     }
 }
 
-/// The system of the edits without the fields.
+/// The system of the edits without these fields, made from the edits by eliminating one field after the
+/// other. `Answers` says that its lines are those of the definition, or the fault is the first overflow
+/// of it, or want of memory.
 pub fn system_of(alloc: Global, edits: &Arc<Edits>, fields: FieldSet) -> Result<System, SystemFault>
     requires { AreNumerical (arc_value edits.now).shape fields }
     ensures edits { IfOk result (λ system. system.edits ≡ arc_value edits.now) }
@@ -99,7 +113,9 @@ pub fn system_of(alloc: Global, edits: &Arc<Edits>, fields: FieldSet) -> Result<
     counted_system::<Brand>(alloc, edits, fields, Blank::new(1))
 }
 
-// The system of the edits without the fields, by a counter of its own.
+// The system of the edits without these fields. The fault is its first overflow, or want of memory.
+// `blank` is one of the ledger `L` (`name`, `parts`), and starts a counter of steps for this call, which
+// nobody reads.
 fn counted_system<L: Ledger>(
     alloc: Global,
     edits: &Arc<Edits>,
@@ -118,7 +134,7 @@ fn counted_system<L: Ledger>(
     fold_system(alloc, edits, fields, &mut steps)
 }
 
-// The set of the first fields, by their number.
+// The set of the first `count` fields, whose numbers are 0 to `count - 1`.
 fn first_fields(count: u32) -> FieldSet
     requires { count ≤ 64 }
     ensures only { (f : ℕ) → has_number result f ≡ true → f < count }

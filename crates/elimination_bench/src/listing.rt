@@ -1,3 +1,5 @@
+//! Generated derivations that the bench has checked: lists of steps over the generated edits, of any
+//! length.
 ghost use Rattle.std.specs.Prelude.{◌≡◌, ℕ, IfOk, length, map, replicate, string_bytes};
 ghost use Rattle.edit_model.specs.Rows.{IsRow};
 ghost use Rattle.edit_model.specs.declared.value.Value.TheVariants.{Bad};
@@ -21,7 +23,8 @@ pub enum Listing {
 }
 
 impl Listing {
-    // The step at the place.
+    // The step at this place of the list, from 0. There are 992 generated lines, of which `Given` takes
+    // one after the other.
     fn step(self, place: u64) -> Step
         ensures { result ≡ step_at self place }
     {
@@ -39,7 +42,8 @@ impl Listing {
     }
 }
 
-/// Whether a list of this many steps over the generated edits is accepted, as a line of text.
+/// A line of text, with its line feed, that says whether a list of `count` steps over the generated
+/// edits is accepted. Otherwise it has the place, from 0, of the first step that is refused.
 pub fn steps_text(alloc: Global, listing: Listing, count: u64) -> Result<String, OutOfMemory>
     ensures { IfOk result (λ text. string_bytes text ≡ verdict_text count (first_refused listing count)) }
 {
@@ -49,7 +53,8 @@ pub fn steps_text(alloc: Global, listing: Listing, count: u64) -> Result<String,
     }
 }
 
-// The place of the first step that is not valid in a list of this many, if one is not.
+// The place, from 0, of the first step that is not valid in a list of `count` steps, and None where all
+// are.
 fn first_refused(alloc: Global, listing: Listing, count: u64) -> Result<Option<u64>, OutOfMemory>
     ensures { IfOk result (λ place. place ≡ first_refused listing count) }
 {
@@ -73,7 +78,7 @@ fn first_refused(alloc: Global, listing: Listing, count: u64) -> Result<Option<u
     }
 }
 
-// So many steps.
+// The first `count` steps of the listing.
 fn steps_of(alloc: Global, listing: Listing, count: u64) -> Result<Vec<Step>, OutOfMemory>
     ensures { IfOk result (λ steps. steps.items ≡ steps_of listing count) }
 {
@@ -84,7 +89,7 @@ fn steps_of(alloc: Global, listing: Listing, count: u64) -> Result<Vec<Step>, Ou
     Ok(steps)
 }
 
-// The lines of the generated edits.
+// The lines of the generated edits over 32 fields.
 fn generated_lines(alloc: Global) -> Result<Vec<Line>, OutOfMemory>
     ensures { IfOk result (λ lines. lines.items ≡ generated_lines) }
 {
@@ -92,7 +97,8 @@ fn generated_lines(alloc: Global) -> Result<Vec<Line>, OutOfMemory>
     lines_of(alloc, &edits)
 }
 
-// The lines of the edits.
+// Copies of the lines of the edits, in order, without their numbers: the checker of steps takes lines
+// alone.
 fn lines_of(alloc: Global, edits: &Edits) -> Result<Vec<Line>, OutOfMemory>
     ensures { IfOk result (λ lines. lines.items ≡ map (λ (e : ℕ × LineParts). e.1) edits.now.lines) }
 {
@@ -103,7 +109,7 @@ fn lines_of(alloc: Global, edits: &Edits) -> Result<Vec<Line>, OutOfMemory>
     Ok(lines)
 }
 
-// A record of which nothing is known.
+// A record without a value at any field, so that the steps can build on lines alone.
 fn unknown_row(alloc: Global, survey: &Survey) -> Result<Row, OutOfMemory>
     ensures row { IfOk result (λ row. IsRow survey.now.fields row) }
     ensures unknown { IfOk result (λ row. row ≡ replicate (length survey.now.fields) Bad) }

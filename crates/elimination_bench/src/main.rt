@@ -22,19 +22,23 @@ use words::Task;
 // The words that are in form.
 const USAGE: &str = "usage: elimination_bench fold|pairs FIELDS [codes] | steps COUNT [sums]";
 
+// Prints what the words ask for, or why nothing is told, and ends with the status that says so.
 fn main(rt: HostRuntime) -> ExitCode {
     let alloc = rt.alloc();
     let told = told(&rt, alloc);
     leave(alloc, &mut OutPrinter::new(rt), USAGE, told)
 }
 
-// What is printed of the words after the program's name.
+// What is printed of the words after the program's name, or why nothing is. The faults are those of
+// `text_of`.
 fn told<R: std::rt::Env + AllocGlobal>(rt: &R, alloc: Global) -> Result<String, Fault> {
     let words = words_of(alloc, env::args(rt))?;
     text_of(alloc, &words)
 }
 
-// What is printed of these words.
+// What is printed of these words; `Fault::Usage` where they ask for nothing, and `Fault::Overflow` where
+// a number leaves the range. `IsTold` says that the text or the fault is that of the definitions, or
+// memory was refused.
 fn text_of(alloc: Global, words: &[String]) -> Result<String, Fault>
     ensures { IsTold result (told_of (task_in (map string_bytes words.now))) }
 {

@@ -1,3 +1,4 @@
+//! What the words of the bench ask for: which edits or steps, and how many.
 ghost use Rattle.std.specs.Prelude.{◌≡◌, ◌^◌, IfSome, map, string_bytes};
 ghost use Rattle.elimination_bench.specs.inner.Differences.{numbers_of};
 ghost use Rattle.bench_frame.specs.Numbers.{number_in};
@@ -10,7 +11,7 @@ use bench_frame::number_in;
 /// The most steps that are listed.
 const MOST_STEPS: u64 = 10_000_000;
 
-/// What is asked for.
+/// What is asked of the bench.
 #[derive(Clone, Copy, Debug, PartialEq, Eq)]
 pub enum Task {
     /// The derived system without its first fields, by their number.
@@ -21,8 +22,10 @@ pub enum Task {
     Steps(Listing, u64),
 }
 
-/// The task of the words `fold FIELDS` or `pairs FIELDS`, with `codes` behind it for lines with drawn sets
-/// of codes; or of `steps COUNT`, with `sums` behind it for steps that combine lines.
+/// The task of the words `fold FIELDS` or `pairs FIELDS`, with `codes` behind it for lines with drawn
+/// sets of codes. Or it is that of `steps COUNT`, with `sums` behind it for steps that combine lines.
+/// None for any other words. `IsServed` says that there are as many fields as are asked for, and for
+/// `pairs` at least one.
 pub fn task_of(words: &[String]) -> Option<Task>
     ensures exact { result ≡ task_in (map string_bytes words.now) }
     ensures served { IfSome result IsServed }
@@ -40,7 +43,8 @@ pub fn task_of(words: &[String]) -> Option<Task>
     }
 }
 
-// The task of the verb over the system.
+// The task of the verb over these generated edits. None where the verb is another, the count is no number
+// or more than there are fields, or `pairs` is asked of no field.
 fn served(verb: &str, system: Differences, count: &str) -> Option<Task>
     ensures exact { result ≡ served verb.now system (number_in count.now 0 (numbers_of system)) }
     ensures served { IfSome result IsServed }
@@ -53,7 +57,8 @@ fn served(verb: &str, system: Differences, count: &str) -> Option<Task>
     }
 }
 
-// The check of a list of steps, by their number.
+// The check of a list of as many steps as the text writes. None where it writes no number, or more than
+// `MOST_STEPS`.
 fn listed(listing: Listing, count: &str) -> Option<Task>
     ensures exact { result ≡ listed listing (number_in count.now 0 (10 ^ 7)) }
     ensures served { IfSome result IsServed }
@@ -64,7 +69,8 @@ fn listed(listing: Listing, count: &str) -> Option<Task>
     }
 }
 
-// The number of fields that the text writes, if the system has as many.
+// The number that the text writes. None where it writes none, or more than these edits have numerical
+// fields.
 fn count_within(text: &str, system: Differences) -> Option<u32>
     ensures { result ≡ number_in text.now 0 (numbers_of system) }
 {

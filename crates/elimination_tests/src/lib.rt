@@ -1,5 +1,6 @@
-//! Tests of what no case can say as text: of the pool of derived systems, its readers and threads that share it, and of states and
-//! steps of paths that no rules lead to. They stand in a crate of their own, since a crate with tests is proved twice.
+//! Tests of the pool of derived systems, its readers and threads that share it, and of states and steps
+//! of paths that no rules lead to. No case can say as text what they try. They stand in a crate of their
+//! own, since a crate with tests is proved twice.
 #![tactic(auto)]
 
 #[cfg(test)]

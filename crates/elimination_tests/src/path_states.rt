@@ -1,10 +1,11 @@
-//! When a path is open, and when it is closed.
+//! The states that a path may be in: which of them are open, and which are closed.
 use bound_cert::Event;
 use edit_line::Place;
 use edit_paths::{PathState, outcome_laws, path_laws};
 use std::test::Fail;
 
-// The first of the states that is not open, or not closed, as told.
+// The place of the first of these states that is not open, or not closed, as the two flags behind it say.
+// None where all are.
 fn first_wrong(states: &[(PathState, bool, bool)]) -> Option<usize> {
     for (i, (state, open, closed)) in states.iter().enumerate() {
         if state.is_open() != *open || state.is_closed() != *closed {
@@ -14,6 +15,8 @@ fn first_wrong(states: &[(PathState, bool, bool)]) -> Option<usize> {
     None
 }
 
+// Each state with whether it is open, and whether it is closed. The calls of laws at the end compute
+// nothing.
 #[test]
 fn an_overflow_is_neither_open_nor_closed(rt: HostRuntime) -> Result<(), Fail> {
     let step = Event::Step {

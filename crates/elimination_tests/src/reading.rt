@@ -1,4 +1,5 @@
-//! The trade survey, and what is made of it, tested for what the calls ask.
+//! The trade survey, and what is made of it for the tests: its edits, sets of its fields, and lines to
+//! compare with. In contracts, `AreNumerical` says that each field of a set is numerical.
 ghost use Rattle.std.specs.Prelude.{◌≡◌, IfOk, true};
 ghost use Rattle.std.specs.Arc.{arc_value};
 ghost use Rattle.edit_line.specs.Shapes.{has_field, shape_of};
@@ -22,10 +23,10 @@ Turnover - Costs - Profit = 0
 10 Profit <= 6 Turnover
 ";
 
-/// A line: its sets, its factors, its constant, and its relation.
+/// A line that a test expects: its sets, its factors, its constant, and its relation.
 pub(crate) type LinePlan = (&'static [u64], &'static [i128], i128, Relation);
 
-/// The survey of the text.
+/// The survey that the text reads as. A text without a reading, or of 2^32 bytes or more, ends the test.
 pub(crate) fn survey_of(alloc: Global, text: &[u8]) -> Result<Survey, Fail> {
     if text.len() >= 1 << 32 {
         return Err("a short text")?;
@@ -33,7 +34,7 @@ pub(crate) fn survey_of(alloc: Global, text: &[u8]) -> Result<Survey, Fail> {
     Ok(read_rules(alloc, text).ok().ok_or("a survey")?)
 }
 
-/// Whether the line is the planned one.
+/// Whether the line is the one that is expected.
 pub(crate) fn is_line(line: &Line, plan: &LinePlan) -> bool {
     let (sets, factors, constant, relation) = plan;
     line.sets() == *sets
@@ -42,7 +43,7 @@ pub(crate) fn is_line(line: &Line, plan: &LinePlan) -> bool {
         && line.relation() == *relation
 }
 
-/// The edits of the survey.
+/// The edits of the survey's rules, for several owners.
 pub(crate) fn edits_of(alloc: Global, survey: &Survey) -> Result<Arc<Edits>, Fail>
     ensures { IfOk result (λ edits. (arc_value edits).shape ≡ shape_of survey.now.fields) }
 {
@@ -50,7 +51,7 @@ pub(crate) fn edits_of(alloc: Global, survey: &Survey) -> Result<Arc<Edits>, Fai
     Ok(Arc::new(alloc, edits)?)
 }
 
-/// The set of these numerical fields.
+/// The set of these fields, by their numbers from 0. A field that is not numerical ends the test.
 pub(crate) fn number_set(survey: &Survey, fields: &[u32]) -> Result<FieldSet, Fail>
     ensures { IfOk result (λ set. AreNumerical (shape_of survey.now.fields) set) }
 {
@@ -61,7 +62,8 @@ pub(crate) fn number_set(survey: &Survey, fields: &[u32]) -> Result<FieldSet, Fa
     Ok(set)
 }
 
-/// The set with the field more.
+/// The set and this field; a field that is not numerical ends the test. Fields are below 64, as `with`
+/// asks.
 fn with_number(survey: &Survey, set: FieldSet, field: u32) -> Result<FieldSet, Fail>
     requires { AreNumerical (shape_of survey.now.fields) set }
     ensures { IfOk result (λ more. AreNumerical (shape_of survey.now.fields) more) }
@@ -72,6 +74,7 @@ fn with_number(survey: &Survey, set: FieldSet, field: u32) -> Result<FieldSet, F
     Ok(set.with(field))
 }
 
+// Whether the field is one of `fields`.
 fn has_field(fields: &[u32], field: u32) -> bool
     ensures { result ≡ true → has_field fields.now field ≡ true }
 {

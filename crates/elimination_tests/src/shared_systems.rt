@@ -1,4 +1,6 @@
-//! The trade survey's systems in a pool: obtained and kept there, and found by another reader.
+//! The trade survey's systems in a pool: one reader obtains them or publishes them, another finds them,
+//! and two threads share the pool. A reader is one of a pool (`IsReaderOf`) where it has walked entries
+//! of that pool alone.
 ghost use Rattle.std.specs.Prelude.{◌≡◌, ◌<◌, [], IfOk};
 ghost use Rattle.std.specs.Arc.{arc_value};
 ghost use Rattle.linear_elim.specs.Systems.{AreNumerical};
@@ -19,14 +21,14 @@ use std::test::Fail;
 use std::thread;
 use std::thread::Threads;
 
-/// The lines without Costs.
+/// The lines that are left of the trade survey without Costs.
 const WITHOUT_COSTS: &[LinePlan] = &[
     (&[], &[1, 0, 0], 0, AtLeast),
     (&[], &[3, 0, -5], 0, AtLeast),
     (&[], &[1, 0, -1], 0, AtLeast),
 ];
 
-/// The line without Costs and Profit.
+/// The one line that is left without Costs and Profit.
 const WITHOUT_BOTH: &[LinePlan] = &[(&[], &[1, 0, 0], 0, AtLeast)];
 
 /// The edits of the trade survey, and the sets of Costs and of Costs and Profit.
@@ -39,6 +41,7 @@ struct Trade {
     ghost two: { AreNumerical (arc_value edits).shape both },
 }
 
+// The edits and the sets of the trade survey, whose fields Costs and Profit have the numbers 1 and 2.
 fn read_trade(alloc: Global) -> Result<Trade, Fail> {
     let survey = survey_of(alloc, TRADE)?;
     Ok(Trade {
@@ -58,7 +61,7 @@ fn has_lines(system: &System, wanted: &[LinePlan]) -> bool {
             .all(|(derived, plan)| is_line(&derived.line, plan))
 }
 
-/// Whether the system is shared, and has these lines.
+/// Whether the system is shared with the pool, and not the caller's own, and has these lines.
 fn is_shared(held: &Held, wanted: &[LinePlan]) -> bool {
     match held {
         Held::Shared(system) => has_lines(system, wanted),
@@ -66,7 +69,8 @@ fn is_shared(held: &Held, wanted: &[LinePlan]) -> bool {
     }
 }
 
-/// Whether the reader is answered the system with these lines, shared with the pool.
+/// Whether the pool answers the reader the system without these fields, with these lines, and shared with
+/// the pool.
 fn obtains<R: Wait, L: Ledger>(
     rt: &R,
     alloc: Global,
@@ -86,7 +90,8 @@ fn obtains<R: Wait, L: Ledger>(
     }
 }
 
-/// Whether it is answered the system without Costs, and then the one without Costs and Profit.
+/// Whether the pool answers the reader the system without Costs, and then the one without Costs and
+/// Profit, both shared.
 fn obtains_both<R: Wait, L: Ledger>(
     rt: &R,
     alloc: Global,
@@ -105,7 +110,8 @@ fn obtains_both<R: Wait, L: Ledger>(
     obtains(rt, alloc, pool, reader, trade.both, WITHOUT_BOTH, steps)
 }
 
-/// Whether the reader finds the system with these lines.
+/// Whether the reader finds in the pool, without making it, a system without these fields that has these
+/// lines.
 fn finds(pool: &Pool, reader: &mut Reader, fields: FieldSet, wanted: &[LinePlan]) -> bool
     requires { IsReaderOf pool.now reader.old }
     ensures { IsReaderOf pool.now reader.new }
@@ -124,15 +130,17 @@ fn pool_of(alloc: Global, edits: &Arc<Edits>) -> Result<Pool, Fail>
     Ok(Pool::new(alloc, edits).ok().ok_or("memory")?)
 }
 
-/// A reader of the pool.
+/// A reader of the pool, which knows no system yet.
 fn reader_of(alloc: Global, pool: &Pool) -> Result<Reader, Fail>
     ensures { IfOk result (λ reader. reader ≡ []) }
 {
     Ok(pool.reader(alloc).ok().ok_or("memory")?)
 }
 
-/// Whether a new pool has no system; then one reader is answered the systems of both sets, twice; and then another reader
-/// finds the first.
+/// Whether systems that one reader obtains are kept for another. A new pool has no system. Then the
+/// first reader is answered the systems of both sets, twice, the second time from what it knows. Then
+/// the second reader finds the system without Costs. `blank` is one of the ledger `L` (`name`, `parts`),
+/// and starts the counter of steps.
 fn are_kept<R: Wait, L: Ledger>(rt: &R, alloc: Global, blank: Blank) -> Result<bool, Fail>
     requires name { blank.name ≡ L.name }
     requires parts { blank.parts ≡ L.parts }
@@ -155,13 +163,15 @@ fn are_kept<R: Wait, L: Ledger>(rt: &R, alloc: Global, blank: Blank) -> Result<b
     Ok(finds(&pool, &mut second, trade.costs, WITHOUT_COSTS))
 }
 
+// One reader obtains both systems of the trade survey, and another finds the first of them.
 #[test]
 fn systems_are_kept_for_other_readers(rt: HostRuntime) -> Result<(), Fail> {
     assert!(rt; are_kept::<HostRuntime, Brand>(&rt, rt.alloc(), Blank::new(1))?);
     Ok(())
 }
 
-/// Whether a system that was folded is stored, and then found.
+/// Whether a system that was made outside of the pool and then published is stored there, and found.
+/// `blank` is one of the ledger `L` (`name`, `parts`), and starts the counter of steps.
 fn is_published<R: Wait, L: Ledger>(rt: &R, alloc: Global, blank: Blank) -> Result<bool, Fail>
     requires name { blank.name ≡ L.name }
     requires parts { blank.parts ≡ L.parts }
@@ -184,13 +194,15 @@ fn is_published<R: Wait, L: Ledger>(rt: &R, alloc: Global, blank: Blank) -> Resu
     }
 }
 
+// A system that was made without the pool is published in it, and found there.
 #[test]
 fn a_system_is_published(rt: HostRuntime) -> Result<(), Fail> {
     assert!(rt; is_published::<HostRuntime, Brand>(&rt, rt.alloc(), Blank::new(1))?);
     Ok(())
 }
 
-/// Whether a reader of its own is answered both systems.
+/// Whether the pool answers this reader both systems, as in a thread. `blank` is one of the ledger `L`
+/// (`name`, `parts`), and starts a counter of steps of its own.
 fn works<R: Wait, L: Ledger>(
     rt: &R,
     alloc: Global,
@@ -209,7 +221,7 @@ fn works<R: Wait, L: Ledger>(
     obtains_both(rt, alloc, pool, &mut reader, trade, &mut steps)
 }
 
-/// The same, where nothing is counted.
+/// Whether the pool answers this reader both systems, without a counter that a caller has to start.
 fn works_alone<R: Wait>(rt: &R, alloc: Global, pool: &Pool, reader: Reader, trade: &Trade) -> bool
     requires edits { pool.now.edits ≡ arc_value trade.now.edits }
     requires reader { IsReaderOf pool.now reader }
@@ -236,6 +248,7 @@ fn work_side_by_side<R: Threads + Wait + Sync>(rt: &R, alloc: Global) -> Result<
     Ok(one && other)
 }
 
+// Two threads, each with a reader of its own, obtain both systems from one pool.
 #[test]
 fn threads_share_a_pool(rt: HostRuntime) -> Result<(), Fail> {
     assert!(rt; work_side_by_side(&rt, rt.alloc())?);

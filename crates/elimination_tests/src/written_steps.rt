@@ -1,4 +1,4 @@
-//! The steps that are written of the boxes and lines of a path.
+//! The steps that are written of the boxes and lines of a path, where two boxes come from one line.
 ghost use Rattle.std.specs.Prelude.{◌≡◌, ◌<◌, ◌∷◌, [], IfOk};
 ghost use Rattle.std.specs.Arc.{arc_value};
 ghost use Rattle.edit_line.specs.Shapes.{Numerical, domain_of, shape_of};
@@ -15,7 +15,7 @@ use std::sync::Arc;
 use std::sync::ledger::{Blank, Ledger};
 use std::test::Fail;
 
-// A survey of one numerical field.
+// A survey of one numerical field, and no rule.
 fn survey_of_one(alloc: Global) -> Result<Survey, Fail>
     ensures { IfOk result (λ survey. shape_of survey.fields ≡ Numerical ∷ []) }
 {
@@ -33,7 +33,7 @@ fn survey_of_one(alloc: Global) -> Result<Survey, Fail>
     )
 }
 
-// The edit that the field is not below 0, with this number.
+// The edit that the survey's one field is not below 0, numbered `number`.
 fn edit(alloc: Global, survey: &Survey, number: u32) -> Result<Arc<Edits>, Fail>
     requires { shape_of survey.now.fields ≡ Numerical ∷ [] }
     ensures { IfOk result (λ edits. (arc_value edits).shape ≡ Numerical ∷ []) }
@@ -51,7 +51,9 @@ fn edit(alloc: Global, survey: &Survey, number: u32) -> Result<Arc<Edits>, Fail>
     Ok(Arc::new(alloc, edits)?)
 }
 
-// The lines of the edits.
+// The derived system of the edits in which no field is eliminated: their lines, reduced. `blank` starts a
+// counter of steps, which nobody reads. It is one of the ledger `L`: it has its name and its number of
+// parts.
 fn lines<L: Ledger>(alloc: Global, edits: &Arc<Edits>, blank: Blank) -> Result<Held, Fail>
     requires name { blank.name ≡ L.name }
     requires parts { blank.parts ≡ L.parts }
@@ -66,12 +68,14 @@ fn lines<L: Ledger>(alloc: Global, edits: &Arc<Edits>, blank: Blank) -> Result<H
     )
 }
 
-// The lines of the edits, reduced, where nothing is counted.
+// The derived system of the edits in which no field is eliminated, without a counter that a caller has to
+// start.
 fn lines_alone(alloc: Global, edits: &Arc<Edits>) -> Result<Held, Fail> {
     lines::<Brand>(alloc, edits, Blank::new(1))
 }
 
-// The boxes of these origins, after the field was treated.
+// The boxes of these origins, as a level of the path on which this field was treated. The survey has no
+// categorical field, so that the boxes have no sets.
 fn boxes(alloc: Global, survey: &Survey, field: u32, origins: Vec<BoxOrigin>) -> Result<Level, Fail>
     requires { shape_of survey.now.fields ≡ Numerical ∷ [] }
 {
@@ -86,7 +90,8 @@ fn boxes(alloc: Global, survey: &Survey, field: u32, origins: Vec<BoxOrigin>) ->
     })
 }
 
-// A line, two boxes of it, their cover, and the cover as it was.
+// The levels of a path, from the first on. They are a line, two boxes of it, then a box made whole and a
+// cover of both, and last that cover unchanged.
 fn levels(alloc: Global, survey: &Survey) -> Result<Vec<Level>, Fail>
     requires { shape_of survey.now.fields ≡ Numerical ∷ [] }
 {
@@ -103,6 +108,8 @@ fn levels(alloc: Global, survey: &Survey) -> Result<Vec<Level>, Fail>
     ]?)
 }
 
+// Two boxes are of one failing line: its edit, 7, is given once, and the cover names the two boxes by the
+// places of their steps.
 #[test]
 fn a_line_that_two_boxes_come_from_is_given_once(rt: HostRuntime) -> Result<(), Fail> {
     let alloc = rt.alloc();

@@ -1,4 +1,6 @@
-//! Boxes of a record, and what is left of them: of a code of a field, or without a field.
+//! Worked calls on boxes: those of a record, and what is left of them when a field keeps a code or is
+//! eliminated. In contracts, `LieApart` says that none of the boxes lies inside another. `IsRow` says
+//! that the record has for each field a value of its kind, or none.
 ghost use Rattle.std.specs.Prelude.{◌≡◌, ◌<◌, All, IfOk, IfSome, true};
 ghost use Rattle.edit_line.specs.CodeFields.{size_of};
 ghost use Rattle.edit_line.specs.Domains.{domains};
@@ -21,7 +23,9 @@ use edit_normal::normal_lines;
 use foundation::{OutOfMemory, Sequence};
 use std::alloc::Global;
 
-// Boxes, whether it is known that they lie apart, and how many pairs the last elimination looked at.
+// Boxes, whether it is known that they lie apart, and how many pairs the last elimination looked at,
+// where the last change was one. Boxes that lie apart (none inside another) may be treated by faster
+// calls, which require it.
 #[derive(Drop)]
 struct Boxes {
     list: Vec<BoxFrom>,
@@ -29,8 +33,11 @@ struct Boxes {
     pairs: Option<u64>,
 }
 
-/// The boxes of the lines that fail at a record, after the changes that the words ask for, three each: `fix FIELD CODE`,
-/// `cover FIELD MOST`, or `pick I J`, two of the boxes, of which nothing is known.
+/// The boxes of the lines that fail at the record, in order, after the changes that the words ask for. A
+/// change has three words. By `fix FIELD CODE` the field keeps the code. By `cover FIELD MOST` the field
+/// is eliminated, looking at `MOST` pairs at most. By `pick I J` only the boxes of these numbers stay,
+/// which may be one box twice. Where a number leaves the range, the line and the field are told. The
+/// faults are those of `changed`.
 pub fn boxes_told(
     alloc: Global,
     survey: &Survey,
@@ -59,7 +66,8 @@ pub fn boxes_told(
     }
 }
 
-// The lines of the rules, each with the number of its rule as its origin.
+// The lines of the rules, each with the number of its rule, from 0, as its origin. The fault of
+// `line_over` never comes: these lines are over the survey's fields.
 fn derived_lines(alloc: Global, survey: &Survey) -> Result<Vec<Derived>, CallFault>
     ensures { IfOk result (λ lines. All (λ d. d.line.shape ≡ shape_of survey.now.fields) lines.items) }
 {
@@ -74,7 +82,7 @@ fn derived_lines(alloc: Global, survey: &Survey) -> Result<Vec<Derived>, CallFau
     Ok(lines)
 }
 
-// An equal line, over the survey's fields.
+// A copy of the line, which is refused where it is over other fields than `shape`'s (`CallFault::Shape`).
 fn line_over(alloc: Global, shape: Shape, line: &Line) -> Result<Line, CallFault>
     ensures { IfOk result (λ copy. copy.shape ≡ domains shape) }
 {
@@ -84,7 +92,8 @@ fn line_over(alloc: Global, shape: Shape, line: &Line) -> Result<Line, CallFault
     Ok(line.copy(alloc)?)
 }
 
-// The boxes after the changes that the words ask for.
+// What is told of the boxes `first` after the changes that the words ask for, three words each. It is
+// `passed` where a cover would look at too many pairs. The faults are those of `changed`.
 fn changed_told(
     alloc: Global,
     survey: &Survey,
@@ -103,7 +112,9 @@ fn changed_told(
     told(alloc, survey, &boxes)
 }
 
-// The boxes after one change, or None where that would look at too many pairs.
+// The boxes after the change of these three words, or None where it is a cover that would look at too
+// many pairs. `CallFault::Words` where the words are no change, `Field` where there is no such field or
+// code, and `Number` where there is no such box.
 fn changed(
     alloc: Global,
     survey: &Survey,
@@ -129,7 +140,8 @@ fn changed(
     }
 }
 
-// Two of the boxes.
+// The boxes at the places `first` and `second`, from 0; never None. `CallFault::Number` where there is
+// no such box. It is not known that the two lie apart, so the slower calls treat them next.
 fn picked(
     alloc: Global,
     boxes: &Boxes,
@@ -151,7 +163,8 @@ fn picked(
     }))
 }
 
-// What the code of a field leaves of the boxes.
+// The boxes that are left when the field keeps the code of this name; never None. They lie apart,
+// whether the boxes before did or not. `CallFault::Field` where the field has no such code.
 fn fixed(
     alloc: Global,
     survey: &Survey,
@@ -177,7 +190,8 @@ fn fixed(
     }))
 }
 
-// What a code leaves of boxes over fields that have it.
+// What the code of the field leaves of the boxes, by the faster call where it is known that they lie
+// apart. `HaveCode` says that the boxes are over fields of which this one has the code.
 fn left(alloc: Global, boxes: &Boxes, field: u32, code: u8) -> Result<Vec<BoxFrom>, OutOfMemory>
     requires code { HaveCode boxes.now.list.items field code }
     requires apart { boxes.now.are_apart ≡ true → LieApart boxes.now.list.items }
@@ -190,7 +204,8 @@ fn left(alloc: Global, boxes: &Boxes, field: u32, code: u8) -> Result<Vec<BoxFro
     }
 }
 
-// The boxes without the field.
+// The boxes when the field is eliminated, or None where that would look at more than `most` pairs.
+// `CallFault::Field` where the field is numerical, since it has no code 0.
 fn covered(
     alloc: Global,
     survey: &Survey,
@@ -215,7 +230,9 @@ fn covered(
     }
 }
 
-// What the elimination of a field from boxes over it gives.
+// What the elimination of the field from the boxes gives, by the faster call where it is known that they
+// lie apart. `Covered::Passed` where it would look at more than `most` pairs. `HaveCodeField` says that
+// the boxes are over fields of which this one is categorical.
 fn without(alloc: Global, boxes: &Boxes, field: u32, most: u64) -> Result<Covered, OutOfMemory>
     requires field { HaveCodeField boxes.now.list.items field }
     requires apart { boxes.now.are_apart ≡ true → LieApart boxes.now.list.items }
@@ -227,12 +244,14 @@ fn without(alloc: Global, boxes: &Boxes, field: u32, most: u64) -> Result<Covere
     }
 }
 
+// Whether the field has the code of this number, from 0. A numerical field has none.
 fn has_code(shape: &Shape, field: u32, code: u8) -> bool
     ensures { result ≡ true → code < size_of (domains shape.now) field }
 {
     code < shape.size_of(field)
 }
 
+// Whether all boxes are over these fields; the calls on boxes require it.
 fn are_over(shape: Shape, boxes: &[BoxFrom]) -> bool
     ensures { result ≡ true → AreBoxesOver (domains shape) boxes.now }
 {
@@ -244,7 +263,8 @@ fn are_over(shape: Shape, boxes: &[BoxFrom]) -> bool
     true
 }
 
-// The boxes, each behind where it comes from, and the number of pairs.
+// The boxes as texts, each behind where it comes from. Then comes the number of pairs, where the last
+// change was an elimination.
 fn told(alloc: Global, survey: &Survey, boxes: &Boxes) -> Result<Texts, CallFault> {
     let mut texts = Vec::new(alloc);
     for each in &boxes.list {
@@ -258,7 +278,8 @@ fn told(alloc: Global, survey: &Survey, boxes: &Boxes) -> Result<Texts, CallFaul
     Ok(texts)
 }
 
-// Where a box comes from: a line that fails, or boxes before the last change.
+// Where a box comes from, and a colon, such as `line 3: `. It is a line that fails, a box before the
+// last change that stayed or was fixed, or the boxes of a cover. Numbers are from 1.
 fn origin_text(alloc: Global, origin: &BoxOrigin) -> Result<String, CallFault> {
     match origin {
         BoxOrigin::Failing(place) => head_text(alloc, "line", *place),
@@ -268,13 +289,13 @@ fn origin_text(alloc: Global, origin: &BoxOrigin) -> Result<String, CallFault> {
     }
 }
 
-// A word and the number of a place.
+// The word, the number from 1 of the place `place`, and a colon: `line 3: `.
 fn head_text(alloc: Global, word: &str, place: u64) -> Result<String, CallFault> {
     let number = from_one(place);
     Ok(format!(in alloc; "{word} {number}: ")?)
 }
 
-// The boxes that a cover is made of.
+// The word `cover`, the numbers, from 1, of the boxes that the cover is made of, and a colon.
 fn cover_text(alloc: Global, parts: &Sequence<u64>) -> Result<String, CallFault> {
     let mut text = String::from_str(alloc, "cover")?;
     for part in parts.as_slice() {
@@ -285,7 +306,9 @@ fn cover_text(alloc: Global, parts: &Sequence<u64>) -> Result<String, CallFault>
     Ok(text)
 }
 
-/// What a box of these sets says: that codes in them are never.
+/// What a box of these sets says, as a rule: that codes in them never stand together, such as
+/// `if Size in {small} then never`. A set that is whole asks nothing and is left out. `sets` has one set
+/// for each categorical field, in order. Want of memory is the only fault.
 pub fn box_text(alloc: Global, survey: &Survey, sets: &[u64]) -> Result<Vec<u8>, CallFault> {
     let wholes = Shape::of(survey).whole_sets(alloc)?;
     let mut tests = Vec::new(alloc);

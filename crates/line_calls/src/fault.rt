@@ -1,4 +1,4 @@
-//! Why a call is not made.
+//! Why a worked call is not made, and the words that are told of it.
 use edit_language::{RulesFault, RulesKind};
 use foundation::OutOfMemory;
 use proof_text::ProofFault;
@@ -16,7 +16,8 @@ pub enum CallFault {
     Rules { line: u32, kind: RulesKind },
     /// A record is not spelled in form.
     Record,
-    /// The survey has no field of this name, or none of the kind that is asked for, or the field has no such code.
+    /// The survey has no field of this name, or none of the kind that is asked for, or the field has no
+    /// such code.
     Field,
     /// A path is no list of letters K and C, or is too long.
     Path,
@@ -33,6 +34,7 @@ pub enum CallFault {
 }
 
 impl fmt::Display for CallFault {
+    // The words that stand in the output of a call that is not made.
     fn fmt<W: fmt::Write>(&self, f: &mut fmt::Formatter<W>) -> fmt::Result {
         match self {
             CallFault::Words => f.write_str("words out of form"),
@@ -53,24 +55,28 @@ impl fmt::Display for CallFault {
 impl error::Error for CallFault {}
 
 impl From<OutOfMemory> for CallFault {
+    // A call below was refused memory.
     fn from(_refused: OutOfMemory) -> Self {
         CallFault::OutOfMemory
     }
 }
 
 impl From<AllocError> for CallFault {
+    // Memory was refused.
     fn from(_refused: AllocError) -> Self {
         CallFault::OutOfMemory
     }
 }
 
 impl<T: Drop> From<AllocFailed<T>> for CallFault {
+    // A list was refused memory to grow.
     fn from(_refused: AllocFailed<T>) -> Self {
         CallFault::OutOfMemory
     }
 }
 
 impl From<RulesFault> for CallFault {
+    // The rule file has no reading, or memory for it was refused.
     fn from(fault: RulesFault) -> Self {
         match fault {
             RulesFault::At { line, kind } => CallFault::Rules { line, kind },
@@ -80,6 +86,7 @@ impl From<RulesFault> for CallFault {
 }
 
 impl From<ProofFault> for CallFault {
+    // The file of steps, or of a tree, has no reading, or memory for it was refused.
     fn from(fault: ProofFault) -> Self {
         match fault {
             ProofFault::At { line } => CallFault::Steps { line },

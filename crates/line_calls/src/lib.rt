@@ -1,6 +1,6 @@
-//! Worked calls on the rules of a survey, on lines, derived systems and boxes: what each answers, as text; and what all
-//! worked calls share: the survey of a rule file, a record in one word, numbers, and why a call is not made. The program
-//! that runs files of them is `worked_calls`.
+//! Worked calls on the rules of a survey, on lines, derived systems and boxes: what each answers, as
+//! text. All worked calls share from here the survey of a rule file, a record in one word, numbers, and
+//! why a call is not made. The program that runs files of them is `worked_calls`.
 #![tactic(auto)]
 
 mod boxes;

@@ -1,4 +1,6 @@
-//! The lines of rules: their texts, their negations, and their sums at a record.
+//! Worked calls on the lines of rules: their texts, their negations, and their sums at a record. Lines
+//! are numbered from 1 in what is told. In contracts, `IsRow` says that a record has for each field a
+//! value of its kind, or none.
 ghost use Rattle.std.specs.Prelude.{◌≡◌, IfOk};
 ghost use Rattle.edit_line.specs.Shapes.{shape_of};
 ghost use Rattle.edit_model.specs.Rows.{IsRow};
@@ -11,7 +13,8 @@ use edit_model::{Row, Survey};
 use edit_normal::normal_lines;
 use std::alloc::Global;
 
-/// The normal lines of the rules, each behind its rule's number.
+/// The normal lines of the survey's rules as texts, each behind the number of its rule, from 1. Want of
+/// memory is the only fault.
 pub fn lines_told(alloc: Global, survey: &Survey) -> Result<Texts, CallFault> {
     let mut texts = Vec::new(alloc);
     for made in &normal_lines(alloc, survey)? {
@@ -22,7 +25,8 @@ pub fn lines_told(alloc: Global, survey: &Survey) -> Result<Texts, CallFault> {
     Ok(texts)
 }
 
-/// The lines of the negation of each line, behind the line's number.
+/// The lines of the negation of each line of the rules, each behind the number of the line that they
+/// negate, from 1. An equality has `none` there. Want of memory is the only fault.
 pub fn negations_told(alloc: Global, survey: &Survey) -> Result<Texts, CallFault> {
     let mut texts = Vec::new(alloc);
     for (place, made) in normal_lines(alloc, survey)?.iter().enumerate() {
@@ -31,7 +35,8 @@ pub fn negations_told(alloc: Global, survey: &Survey) -> Result<Texts, CallFault
     Ok(texts)
 }
 
-// Puts the negation of a line last: an equality has none.
+// Puts the lines of the negation of a line last, behind its number. An equality has no negation of lines,
+// and `none` is told. `place` is the line's, from 0.
 fn push_negation(
     alloc: Global,
     survey: &Survey,
@@ -51,7 +56,9 @@ fn push_negation(
     Ok(())
 }
 
-/// The sum of each line at a record and whether it fails there, behind the line's number.
+/// For each line of the rules its number, from 1, its sum at the record, and whether its linear part
+/// fails there: `2 -3 fails`. Where a number leaves the range, that is told instead. Want of memory is
+/// the only fault.
 pub fn sums_told(alloc: Global, survey: &Survey, row: &Row) -> Result<Texts, CallFault>
     requires { IsRow survey.now.fields row.now }
 {
@@ -62,7 +69,9 @@ pub fn sums_told(alloc: Global, survey: &Survey, row: &Row) -> Result<Texts, Cal
     Ok(texts)
 }
 
-// The sum of a line at a record, and whether it fails there.
+// What is told of one line at the record, behind its number: its sum, and whether its linear part fails
+// there. Two calls answer these, of which each refuses where a number leaves the range, so that an
+// overflow is told twice. `place` is the line's, from 0.
 fn sum_told(
     alloc: Global,
     survey: &Survey,
@@ -93,7 +102,7 @@ fn sum_told(
     Ok(text)
 }
 
-// Appends where a sum leaves the range.
+// Appends at which field a sum leaves the range, such as ` overflow at Costs`.
 fn push_overflow(
     survey: &Survey,
     overflow: LineOverflow,

@@ -1,4 +1,6 @@
-//! Records, spelled in one word: for each field a code, a fraction, or `?`, parted by single spaces.
+//! Records, spelled in one word: for each field a code, a fraction, or `?` for a missing value, parted
+//! by single spaces. In contracts, `IsRow` says that a record has for each field a value of its kind, or
+//! none.
 ghost use Rattle.std.specs.Prelude.{◌≡◌, IfOk, true};
 ghost use Rattle.edit_model.specs.Rows.{IsOfKind, IsRow};
 
@@ -8,7 +10,8 @@ use edit_model::{Field, Kind, Row, Survey, Value};
 use fraction128::Fraction;
 use std::alloc::Global;
 
-/// The record that is spelled so.
+/// The record of the survey that is spelled so. `CallFault::Record` where it has not a value for each
+/// field, or a number is not in form; `CallFault::Field` where a field has no such code.
 pub fn row_of(alloc: Global, survey: &Survey, text: &str) -> Result<Row, CallFault>
     ensures { IfOk result (λ row. IsRow survey.now.fields row) }
 {
@@ -19,7 +22,8 @@ pub fn row_of(alloc: Global, survey: &Survey, text: &str) -> Result<Row, CallFau
     Ok(Row::new(survey, values))
 }
 
-// The values that are spelled so, no more than there are fields.
+// The values that are spelled so, one for each field that has a word; where words are missing, there are
+// fewer. Words past the last field are not looked at. The faults are those of `value_of`.
 fn values_of(alloc: Global, fields: &[Field], text: &str) -> Result<Vec<Value>, CallFault> {
     let mut values = Vec::new(alloc);
     for (field, word) in fields.iter().zip(text.split(' ')) {
@@ -28,7 +32,8 @@ fn values_of(alloc: Global, fields: &[Field], text: &str) -> Result<Vec<Value>, 
     Ok(values)
 }
 
-// The value of a field that is spelled so.
+// The value of the field that this word spells. `CallFault::Record` where a number is not in form, and
+// `CallFault::Field` where the field has no such code.
 fn value_of(field: &Field, word: &str) -> Result<Value, CallFault> {
     if word == "?" {
         return Ok(Value::Bad);
@@ -42,7 +47,7 @@ fn value_of(field: &Field, word: &str) -> Result<Value, CallFault> {
     }
 }
 
-// Whether the field may hold the value.
+// Whether the field may hold the value. A missing value fits each.
 fn fits(field: &Field, value: &Value) -> bool
     ensures { result ≡ true → IsOfKind field.now.kind value.now }
 {
@@ -60,7 +65,8 @@ fn fits(field: &Field, value: &Value) -> bool
     }
 }
 
-/// Whether there is a value for each field, which may hold it.
+/// Whether there is a value for each field, which may hold it. It is asked before the record is made,
+/// which requires it.
 fn are_values(fields: &[Field], values: &[Value]) -> bool
     ensures { result ≡ true → IsRow fields.now values.now }
 {
@@ -75,7 +81,7 @@ fn are_values(fields: &[Field], values: &[Value]) -> bool
     true
 }
 
-/// The spelling of a record.
+/// The spelling of a record, which [`row_of`] reads back. Want of memory is the only fault.
 pub fn row_text(alloc: Global, survey: &Survey, row: &Row) -> Result<Vec<u8>, CallFault> {
     let mut text = Vec::new(alloc);
     for (place, (field, value)) in survey.fields().iter().zip(row.values()).enumerate() {
@@ -87,7 +93,7 @@ pub fn row_text(alloc: Global, survey: &Survey, row: &Row) -> Result<Vec<u8>, Ca
     Ok(text)
 }
 
-// Appends the spelling of a field's value.
+// Appends the spelling of a field's value: `?` for a missing one.
 fn push_value(
     alloc: Global,
     field: &Field,

@@ -1,4 +1,5 @@
-//! Systems without some of their fields.
+//! Worked calls on derived systems: the lines that are left of the rules without some of their numerical
+//! fields. In contracts, `AreNumerical` says that each field of a set is numerical.
 ghost use Rattle.std.specs.Prelude.{◌≡◌, ◌<◌, IfOk, true};
 ghost use Rattle.std.specs.Arc.{arc_value};
 ghost use Rattle.edit_line.specs.Shapes.{has_field, shape_of};
@@ -16,7 +17,9 @@ use std::alloc::Global;
 use std::marker::Brand;
 use std::sync::ledger::{Blank, Ledger};
 
-/// The lines of the system without these fields, each behind where it comes from, or where a number leaves the range.
+/// The lines of the derived system without the numerical fields of these names, each behind where it
+/// comes from. Where a number leaves the range, that is told instead. `CallFault::Field` where a name is
+/// none of a numerical field.
 pub fn system_told(alloc: Global, survey: &Survey, fields: &[&str]) -> Result<Texts, CallFault> {
     match system_of::<Brand>(alloc, survey, fields, Blank::new(1))? {
         Ok(held) => derived_told(alloc, survey, held.system().lines()),
@@ -32,7 +35,8 @@ pub fn system_told(alloc: Global, survey: &Survey, fields: &[&str]) -> Result<Te
     }
 }
 
-/// How many pairs of lines are combined when the last field is eliminated behind the others.
+/// How many pairs of lines are combined when the field `last` is eliminated from the system without the
+/// other fields. `CallFault::Number` where that system can't be made, also for want of memory.
 pub fn pairs_told(
     alloc: Global,
     survey: &Survey,
@@ -49,7 +53,9 @@ pub fn pairs_told(
     }
 }
 
-// What the plain source answers for these fields.
+// What the source that keeps no system answers for the set of these fields. The inner `Err` tells where
+// a number leaves the range, or that memory was refused. `blank` is one of the ledger `L` (`name`,
+// `parts`), and starts a counter of steps for this call, which nobody reads.
 fn system_of<L: Ledger>(
     alloc: Global,
     survey: &Survey,
@@ -66,7 +72,8 @@ fn system_of<L: Ledger>(
     Ok(Recompute.system(alloc, &edits, set, &mut steps))
 }
 
-// The set of these numerical fields.
+// The set of the numerical fields of these names. `CallFault::Field` where a name is none of a numerical
+// field.
 fn number_set(survey: &Survey, fields: &[&str]) -> Result<FieldSet, CallFault>
     ensures { IfOk result (λ set. AreNumerical (shape_of survey.now.fields) set) }
 {
@@ -77,7 +84,8 @@ fn number_set(survey: &Survey, fields: &[&str]) -> Result<FieldSet, CallFault>
     Ok(set)
 }
 
-// The set with the field more.
+// The set and this field. `CallFault::Field` where the field is not numerical. Fields are below 64, as
+// `with` asks.
 fn with_number(survey: &Survey, set: FieldSet, field: u32) -> Result<FieldSet, CallFault>
     requires { AreNumerical (shape_of survey.now.fields) set }
     ensures { IfOk result (λ more. AreNumerical (shape_of survey.now.fields) more) }
@@ -88,6 +96,7 @@ fn with_number(survey: &Survey, set: FieldSet, field: u32) -> Result<FieldSet, C
     Ok(set.with(field))
 }
 
+// Whether the field is one of `fields`.
 fn has_field(fields: &[u32], field: u32) -> bool
     ensures { result ≡ true → has_field fields.now field ≡ true }
 {
@@ -99,7 +108,7 @@ fn has_field(fields: &[u32], field: u32) -> bool
     false
 }
 
-// The lines, each behind where it comes from.
+// The lines of a system, each behind where it comes from, such as `combine 1 1 2 3 1: Costs >= 0`.
 fn derived_told(alloc: Global, survey: &Survey, lines: &[Derived]) -> Result<Texts, CallFault> {
     let mut texts = Vec::new(alloc);
     for derived in lines {
@@ -109,7 +118,9 @@ fn derived_told(alloc: Global, survey: &Survey, lines: &[Derived]) -> Result<Tex
     Ok(texts)
 }
 
-// Where a line comes from: a line of the rules, a line before the last step, or two of them.
+// Where a line comes from, and a colon. It is a line of the rules, a line before the last step, or a
+// combination of two of these. Its numbers are those of the lines, from 1, the factor of each, and what
+// the combination was divided by.
 fn origin_text(alloc: Global, origin: Origin) -> Result<String, CallFault> {
     Ok(match origin {
         Origin::Base(number) => {
@@ -128,7 +139,9 @@ fn origin_text(alloc: Global, origin: Origin) -> Result<String, CallFault> {
     })
 }
 
-// Where a number leaves the range: the field that is eliminated, the two lines, and the place in their combination.
+// Where a number leaves the range: the field that is eliminated, the lines `first` and `second`,
+// numbered from 1, and the place in their combination. Such is
+// `overflow at Costs lines 1 2 at constant`.
 fn overflow_told(
     alloc: Global,
     survey: &Survey,

@@ -1,4 +1,4 @@
-//! Parts of what is told.
+//! Parts of what worked calls tell: lines, names of fields, and places of numbers.
 ghost use Rattle.std.specs.Prelude.{◌≡◌, IfOk};
 ghost use Rattle.edit_line.specs.Shapes.{shape_of};
 
@@ -8,10 +8,11 @@ use edit_model::Survey;
 use rule_report::line_text;
 use std::alloc::Global;
 
-/// The lines that are told.
+/// The lines that a call tells, without their line feeds.
 pub type Texts = Vec<Vec<u8>>;
 
-/// The text of a line, behind a head.
+/// The text of a line over the survey's fields, behind `head`. A line over other fields is refused
+/// (`CallFault::Shape`).
 pub fn told_line(
     alloc: Global,
     survey: &Survey,
@@ -27,7 +28,7 @@ pub fn told_line(
     Ok(text)
 }
 
-/// The name of the field of this number, from 0.
+/// The name of the field of this number, from 0. `CallFault::Field` where the survey has no such field.
 pub fn name_of(survey: &Survey, field: u32) -> Result<&[u8], CallFault> {
     match survey.fields().get(field as usize) {
         Some(field) => Ok(field.name.as_bytes()),
@@ -35,7 +36,7 @@ pub fn name_of(survey: &Survey, field: u32) -> Result<&[u8], CallFault> {
     }
 }
 
-/// Appends where a number stands in a line.
+/// Appends where a number stands in a line: ` at constant`, or ` at ` and the name of the field.
 pub fn push_place(text: &mut Vec<u8>, survey: &Survey, place: Place) -> Result<(), CallFault> {
     text.extend_from_slice(b" at ")?;
     match place {
@@ -45,7 +46,7 @@ pub fn push_place(text: &mut Vec<u8>, survey: &Survey, place: Place) -> Result<(
     Ok(())
 }
 
-/// The one text.
+/// The text as the only line that is told. Want of memory is the only fault.
 pub fn alone(alloc: Global, text: Vec<u8>) -> Result<Texts, CallFault> {
     let mut texts = Vec::new(alloc);
     texts.push(text)?;

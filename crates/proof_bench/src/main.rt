@@ -1,4 +1,4 @@
-//! A program that reads a proof file and tells how much it holds, or the first line that can't go on, so that
+//! A program that reads a proof file and tells how much it holds, or the first line that can't go on. So
 //! the reading can be timed.
 #![tactic(auto)]
 
@@ -16,13 +16,16 @@ use std::{env, fs};
 // The words that are in form.
 const USAGE: &str = "usage: proof_bench FILE";
 
+// Prints what the proof file that the word names holds, or why nothing is told, and ends with the status
+// that says so.
 fn main(rt: HostRuntime) -> ExitCode {
     let alloc = rt.alloc();
     let told = told(&rt, alloc);
     leave(alloc, &mut OutPrinter::new(rt), USAGE, told)
 }
 
-// What is printed of the file that the one word names.
+// What is printed of the file that the one word names. `Fault::Usage` where there are more words or
+// none, and `Fault::FileUnread` where the file can't be read.
 fn told(rt: &HostRuntime, alloc: Global) -> Result<String, Fault> {
     let words = words_of(alloc, env::args(rt))?;
     let [name] = words.as_slice() else {
@@ -35,7 +38,8 @@ fn told(rt: &HostRuntime, alloc: Global) -> Result<String, Fault> {
     }
 }
 
-// What is printed of these bytes.
+// What is printed of the bytes of a proof file: its counts, or its first line that can't go on. `IsTold`
+// says that one of these holds of the bytes. `Fault::OutOfMemory` is the only refusal.
 fn text_of(alloc: Global, bytes: &[u8]) -> Result<String, Fault>
     ensures { IfOk result (λ text. IsTold bytes.now (string_bytes text)) }
 {
@@ -46,7 +50,8 @@ fn text_of(alloc: Global, bytes: &[u8]) -> Result<String, Fault>
     }
 }
 
-// How many lines of the rules, steps of the table, records and claims there are.
+// How many lines of the rules, steps of the table, records and claims the proof has, as a line of text
+// with its line feed.
 fn counts(alloc: Global, proof: &ProofFile) -> Result<String, Fault>
     ensures { IfOk result (λ text. string_bytes text ≡ counts_text proof.now) }
 {
@@ -57,7 +62,8 @@ fn counts(alloc: Global, proof: &ProofFile) -> Result<String, Fault>
     Ok(format!(in alloc; "lines {verdicts} table {table} records {rows} claims {claims}\n")?)
 }
 
-// The line that can't go on.
+// A line of text, with its line feed, that names the first line, from 1, at which the bytes can't go on
+// as a proof.
 fn fault_at(alloc: Global, line: u64) -> Result<String, Fault>
     ensures { IfOk result (λ text. string_bytes text ≡ fault_text line) }
 {

@@ -1,4 +1,5 @@
-//! Derivations and proof trees over the lines of rules, checked.
+//! Worked calls on derivations and proof trees over the lines of rules: what their checkers say of those
+//! in a file. In contracts, `IsRow` says that a record has for each field a value of its kind, or none.
 ghost use Rattle.std.specs.Prelude.{◌≡◌, IfOk, length};
 ghost use Rattle.edit_model.specs.Rows.{IsRow};
 
@@ -10,8 +11,10 @@ use edit_normal::lines_of_rules;
 use line_calls::{CallFault, Texts, alone, box_text, from_one, place_in, told_line};
 use std::alloc::Global;
 
-/// What the steps of a file prove of a record from the lines of the rules but those of these numbers, where the path's fields
-/// are kept; or the first of them that is not valid.
+/// What the steps of a file prove of a record, or the number, from 1, of the first that is not valid.
+/// `path` says which fields are kept, and `steps` are the bytes of the file. The steps may build on all
+/// lines of the rules but those whose numbers are `without`. The faults are those of `steps_of`,
+/// `all_but` and `path_of`, and `CallFault::Path` where the path is longer than there are fields.
 pub fn steps_told(
     alloc: Global,
     survey: &Survey,
@@ -40,7 +43,7 @@ pub fn steps_told(
     }
 }
 
-// What steps prove: that a line holds, or that no codes may all stand in a box.
+// What steps prove, as text: that a line holds, or that no codes may all stand in a box.
 fn proved_text(alloc: Global, survey: &Survey, proved: &Proved) -> Result<Vec<u8>, CallFault> {
     match proved {
         Proved::Line(line) => told_line(alloc, survey, String::from_str(alloc, "line ")?, line),
@@ -52,7 +55,8 @@ fn proved_text(alloc: Global, survey: &Survey, proved: &Proved) -> Result<Vec<u8
     }
 }
 
-/// The path of these letters: K for kept, C for changed, `-` for none.
+/// The path of these letters: K for kept, C for changed; `-` adds nothing, so that it is the empty path.
+/// `CallFault::Path` for any other letter.
 pub fn path_of(alloc: Global, text: &str) -> Result<Path, CallFault> {
     let mut letters = Vec::new(alloc);
     for byte in text.as_bytes() {
@@ -66,7 +70,8 @@ pub fn path_of(alloc: Global, text: &str) -> Result<Path, CallFault> {
     Ok(Path::new(letters))
 }
 
-// For each of this number of lines whether it is usable: all but those of these numbers.
+// For each of `count` lines whether it is usable: all are but those whose numbers, from 1, are
+// `without`. A number past the last line is passed over. The faults are those of `place_in`.
 fn all_but(alloc: Global, count: usize, without: &[&str]) -> Result<Vec<bool>, CallFault>
     ensures { IfOk result (λ usable. length usable.items ≡ count) }
 {
@@ -78,7 +83,7 @@ fn all_but(alloc: Global, count: usize, without: &[&str]) -> Result<Vec<bool>, C
     Ok(usable)
 }
 
-// The places that these numbers name.
+// The places, from 0, that these numbers from 1 name. The faults are those of `place_in`.
 fn places_of(alloc: Global, numbers: &[&str]) -> Result<Vec<usize>, CallFault> {
     let mut places = Vec::new(alloc);
     for number in numbers {
@@ -92,7 +97,10 @@ fn has(places: &[usize], place: usize) -> bool {
     places.contains(&place)
 }
 
-/// What the checker says of the tree of a file, as what it is told to show of a record.
+/// What the checker says of the tree of a file for a record. That is `valid`, or the number of the first
+/// leaf that is not, with that of its step, if one is to blame. What the tree is to show, a weight or
+/// that there is no correction, stands in its own head. `CallFault::Steps` where the file has no
+/// reading.
 pub fn tree_told(alloc: Global, survey: &Survey, row: &Row, tree: &[u8]) -> Result<Texts, CallFault>
     requires { IsRow survey.now.fields row.now }
 {

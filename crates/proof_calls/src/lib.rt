@@ -1,5 +1,5 @@
-//! Worked calls on derivations and proof trees: what the checkers say of steps and of a tree that a file has, as text.
-//! The program that runs files of such calls is `worked_calls`.
+//! Worked calls on derivations and proof trees: what the checkers say of steps and of a tree that a file
+//! has, as text. The program that runs files of such calls is `worked_calls`.
 #![tactic(auto)]
 
 mod derivations;

@@ -1,5 +1,5 @@
-//! A program that searches for the least set of fields to change in each record of a file, so that the
-//! search can be timed beside other editors. The search of a file is in `search`.
+//! A program that searches for the least set of fields to change in each record of a file. So the search
+//! can be timed beside other editors. The search of a file is in `search`.
 #![tactic(auto)]
 
 ghost use Rattle.std.specs.Prelude.{◌≡◌, ◌<◌, ◌^◌, Err, IfOk, length, string_bytes};
@@ -20,13 +20,15 @@ use std::{env, fs};
 // The words that are in form.
 const USAGE: &str = "usage: search_bench RULES RECORDS";
 
+// Prints what the search finds in the files that the words name, or why nothing is told, and ends with
+// the status that says so.
 fn main(rt: HostRuntime) -> ExitCode {
     let alloc = rt.alloc();
     let told = told(&rt, alloc);
     leave(alloc, &mut OutPrinter::new(rt), USAGE, told)
 }
 
-// What is printed of the files that the words name.
+// What is printed of the files that the words name; `Fault::Usage` where they are not two.
 fn told(rt: &HostRuntime, alloc: Global) -> Result<String, Fault> {
     let words = words_of(alloc, env::args(rt))?;
     let [rules, records] = words.as_slice() else {
@@ -37,7 +39,8 @@ fn told(rt: &HostRuntime, alloc: Global) -> Result<String, Fault> {
     text_of(alloc, &rules, &records)
 }
 
-// The bytes of the file, fewer than 2^32.
+// The bytes of the file of this name. `Fault::Unread` where it can't be read, or has 2^32 bytes or more,
+// which the reading of rules does not take.
 fn bytes_of(rt: &HostRuntime, name: &str) -> Result<Vec<u8>, Fault>
     ensures { IfOk result (λ bytes. length bytes.items < 2 ^ 32) }
 {
@@ -49,7 +52,9 @@ fn bytes_of(rt: &HostRuntime, name: &str) -> Result<Vec<u8>, Fault>
     }
 }
 
-// What is printed of these rules and records.
+// What is printed of the bytes of a rule file and of a record file. `Fault::Rules` or `Fault::Records`
+// where one has no reading (`HasNoRules`, `HasNoSheet`); `Fault::OutOfMemory` where memory was refused.
+// `IsTold` says that both have a reading, and that the text is that of their search.
 fn text_of(alloc: Global, rules: &[u8], records: &[u8]) -> Result<String, Fault>
     requires { length rules.now < 2 ^ 32 }
     ensures told { IfOk result (λ text. IsTold rules.now records.now (string_bytes text)) }
@@ -67,7 +72,7 @@ fn text_of(alloc: Global, rules: &[u8], records: &[u8]) -> Result<String, Fault>
     Ok(search::search_text(alloc, &survey, &sheet)?)
 }
 
-// What is told of a rule file that is refused.
+// Why the bench tells nothing of a rule file that is refused.
 fn rules_fault(fault: RulesFault) -> Fault
     ensures { result ≡ rules_fault_of fault }
 {
@@ -77,7 +82,7 @@ fn rules_fault(fault: RulesFault) -> Fault
     }
 }
 
-// What is told of a record file that is refused.
+// Why the bench tells nothing of a record file that is refused.
 fn sheet_fault(fault: SheetFault) -> Fault
     ensures { result ≡ sheet_fault_of fault }
 {

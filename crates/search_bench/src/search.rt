@@ -1,3 +1,6 @@
+//! The search in each record of a file, by all rules of the survey, and what is printed of it. In
+//! contracts, `IsRow` says that a record has for each field a value of its kind, or none. A definition
+//! of the name of a function says what that answers.
 ghost use Rattle.std.specs.Prelude.{◌≡◌, ◌++◌, ◌<◌, IfOk, OnOk, string_bytes};
 ghost use Rattle.std.specs.Arc.{arc_value};
 ghost use Rattle.std.specs.List.{AllByRecursion};
@@ -24,7 +27,8 @@ use std::sync::ledger::{Blank, Ledger};
 /// The greatest work of the search in one record.
 const MOST_WORK: u64 = 1_000_000;
 
-/// A line of text for each record, with the least weight of a change, or why there is none.
+/// A header, and then a line of text for each record, each with its line feed. A line has the record's
+/// number, from 1, and the least weight of a change, or why there is none.
 pub fn search_text(alloc: Global, survey: &Survey, sheet: &Sheet) -> Result<String, OutOfMemory>
     requires { AllByRecursion (IsRow survey.now.fields) sheet.now.rows }
     ensures { IfOk result (λ text. string_bytes text ≡ search_text survey.now sheet.now.rows) }
@@ -37,7 +41,7 @@ pub fn search_text(alloc: Global, survey: &Survey, sheet: &Sheet) -> Result<Stri
     Ok(text)
 }
 
-// The line of one more record.
+// Searches in one record and appends its line. `row_no` is its number, from 0.
 fn push_record(
     alloc: Global,
     survey: &Survey,
@@ -57,7 +61,8 @@ fn push_record(
     Ok(())
 }
 
-// What is found of a record within a budget of work.
+// What the search finds of a record with at most the work `budget`, by these edits. The definition of
+// the same name says what that is.
 fn outcome_of(
     alloc: Global,
     survey: &Survey,
@@ -72,7 +77,8 @@ fn outcome_of(
     counted_outcome::<Brand>(alloc, survey, edits, row, budget, Blank::new(1))
 }
 
-// What is found of a record within a budget of work, by a counter of its own.
+// What the search finds of a record with at most the work `budget`. `blank` is one of the ledger `L`
+// (`name`, `parts`), and starts a counter of steps for this call, which nobody reads.
 fn counted_outcome<L: Ledger>(
     alloc: Global,
     survey: &Survey,
@@ -100,7 +106,8 @@ fn counted_outcome<L: Ledger>(
     )
 }
 
-// What is told of a record: the least weight of a change, or why there is none.
+// What is told of a record: `clean` for a change of weight 0, its weight in decimal for any other change,
+// and else one word for why none was found.
 fn word_of(alloc: Global, outcome: &Outcome) -> Result<String, OutOfMemory>
     ensures { IfOk result (λ word. string_bytes word ≡ word_of outcome.now) }
 {

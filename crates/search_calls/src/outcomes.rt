@@ -1,4 +1,5 @@
-//! What the search finds of a record, as the lines that a proof file has for it.
+//! Worked calls on the search: what it finds of a record, as the lines that a proof file has for it. In
+//! contracts, `outcome_of` is what the search finds by its definition.
 ghost use Rattle.std.specs.Prelude.{◌≡◌, ◌<◌, IfOk};
 ghost use Rattle.std.specs.Arc.{arc_value};
 ghost use Rattle.edit_line.specs.Shapes.{shape_of};
@@ -25,7 +26,9 @@ const BEFORE: usize = 4;
 
 const BEHIND: usize = 2;
 
-/// What is found of a record within a budget of work: the head, and then the leaves of the certificate with their steps.
+/// What is found of a record with at most the work `budget`. The head of the outcome comes first, and
+/// then the leaves of its certificate with their steps, all as a proof file has them. Want of memory is
+/// the only fault.
 pub fn search_told(
     alloc: Global,
     survey: &Survey,
@@ -38,7 +41,9 @@ pub fn search_told(
     outcome_told(alloc, outcome_of(alloc, survey, &edits, row, budget)?)
 }
 
-// The lines of an outcome. A change of nothing has its path and its leaves too.
+// The lines of an outcome. A proof file has but one line for a change of weight 0; here its path and its
+// leaves are told too. They are written as those of a record without a correction, and then the head is
+// replaced.
 fn outcome_told(alloc: Global, outcome: Outcome) -> Result<Texts, CallFault> {
     match outcome {
         Outcome::Change {
@@ -60,7 +65,8 @@ fn outcome_told(alloc: Global, outcome: Outcome) -> Result<Texts, CallFault> {
     }
 }
 
-// The lines that a proof file has for an outcome.
+// The lines that a proof file has for an outcome. A proof of this one record is written, and the lines
+// around the record's are left out.
 fn row_lines(alloc: Global, outcome: Outcome) -> Result<Texts, CallFault> {
     let mut rows = Vec::new(alloc);
     rows.push(RowProof {
@@ -82,7 +88,7 @@ fn row_lines(alloc: Global, outcome: Outcome) -> Result<Texts, CallFault> {
     Ok(lines.into_iter().take(count).skip(BEFORE).collect(alloc)?)
 }
 
-/// What is found of a record within a budget of work.
+/// What the search finds of a record with at most this much work, by these edits.
 pub fn outcome_of(
     alloc: Global,
     survey: &Survey,
@@ -97,7 +103,8 @@ pub fn outcome_of(
     counted_outcome::<Brand>(alloc, survey, edits, row, budget, Blank::new(1))
 }
 
-// What is found of a record within a budget of work, by a counter of its own.
+// What the search finds of a record with at most this much work. `blank` is one of the ledger `L`
+// (`name`, `parts`), and starts a counter of steps for this call, which nobody reads.
 fn counted_outcome<L: Ledger>(
     alloc: Global,
     survey: &Survey,

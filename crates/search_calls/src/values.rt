@@ -1,4 +1,7 @@
-//! The values that the changed fields of a record are given, and how each was found.
+//! Worked calls on the values that the changed fields of a record are given, and how each was found. In
+//! contracts, `IsRow` says that a record has for each field a value of its kind, or none.
+//! `IsDonorRecord` says that the donor, if there is one, is such a record with no value missing.
+//! `CanGive` says that values may be given: the path that changes just these fields is open.
 ghost use Rattle.std.specs.Prelude.{◌≡◌, ◌<◌, IfOk, option_copied};
 ghost use Rattle.std.specs.Arc.{arc_value};
 ghost use Rattle.std.specs.List.{list_any};
@@ -21,11 +24,12 @@ use std::marker::Brand;
 use std::sync::Arc;
 use std::sync::ledger::{Blank, Ledger};
 
-/// The most work of the search.
+/// The most work of the search for the fields that change.
 const BUDGET: u64 = 1000;
 
-/// What a record is given in the place of its changed fields, from a donor that has a value at each field, or without one;
-/// or where a number leaves the range.
+/// The record with the values that its changed fields are given, and how each was found. Where a number
+/// leaves the range, that is told instead. Without a donor the values are the default ones, or the
+/// nearest to these. `CallFault::NoChange` where the search finds no change.
 pub fn values_told(
     alloc: Global,
     survey: &Survey,
@@ -41,7 +45,8 @@ pub fn values_told(
     }
 }
 
-// The values of the record in the end, and how each changed one was found, in path order.
+// The values of the record in the end, and behind a colon how each changed one was found, in path order,
+// such as `5 s: donor`.
 fn gift_told(alloc: Global, survey: &Survey, gift: &Gift) -> Result<Texts, CallFault> {
     let mut text = row_text(alloc, survey, &gift.row)?;
     text.push(b':')?;
@@ -55,7 +60,9 @@ fn gift_told(alloc: Global, survey: &Survey, gift: &Gift) -> Result<Texts, CallF
     alone(alloc, text)
 }
 
-// Where a number leaves the range.
+// Where a number leaves the range in the giving of values. It is at a field in a line that bounds it, or
+// in the test of a rule. Lines and rules are numbered from 1. Memory that was refused is no text, but
+// stays a fault.
 fn fault_text(alloc: Global, survey: &Survey, fault: GiveFault) -> Result<Vec<u8>, CallFault> {
     match fault {
         GiveFault::Bound { field, line } => {
@@ -73,7 +80,8 @@ fn fault_text(alloc: Global, survey: &Survey, fault: GiveFault) -> Result<Vec<u8
     }
 }
 
-/// The same, from the donor that is spelled so.
+/// What [`values_told`] tells with the donor that is spelled so, as [`row_of`] reads it.
+/// `CallFault::Record` where that has no value at some field.
 pub fn values_from(
     alloc: Global,
     survey: &Survey,
@@ -89,14 +97,16 @@ pub fn values_from(
     values_told(alloc, survey, row, Some(&donor))
 }
 
-// Whether the record has no value at some field.
+// Whether the record has no value at some field: then it is no donor.
 fn has_bad(row: &Row) -> bool
     ensures { result ≡ list_any is_bad row.now }
 {
     row.values().iter().any(|value| value.is_bad())
 }
 
-// What the record is given, from the donor, if there is one.
+// What the record is given in the place of the fields that the search changes, from the donor, if there
+// is one. The inner `Err` says where a number leaves the range. `CallFault::NoChange` where the search
+// finds no change.
 fn gift_of(
     alloc: Global,
     survey: &Survey,
@@ -111,7 +121,10 @@ fn gift_of(
     Ok(given::<Brand>(alloc, survey, &edits, row, changed, donor, Blank::new(1)))
 }
 
-// The fields that change in the record.
+// The fields that a change of the record changes, as the search finds them by these edits, which hold
+// exactly at the consistent points (`SayTheRules`). `CallFault::NoChange` where the search finds none.
+// The call of `case_known` computes nothing; it shows that the survey, the edits and the record are a
+// case.
 fn changed_in(
     alloc: Global,
     survey: &Survey,
@@ -130,7 +143,9 @@ fn changed_in(
     }
 }
 
-// What the record is given in the place of these fields, from the donor, if there is one.
+// What the record is given in the place of these fields, from the donor, if there is one. The fault says
+// where a number leaves the range. `blank` is one of the ledger `L` (`name`, `parts`), and starts a
+// counter of steps for this call, which nobody reads.
 fn given<L: Ledger>(
     alloc: Global,
     survey: &Survey,

@@ -1,4 +1,5 @@
-//! Records, and whether rules hold at them. The expected answers were worked out by hand.
+//! Records, and whether rules hold at them. The expected answers were worked out by hand. In contracts,
+//! `IsRow` says that a record has for each field a value of its kind, or none.
 ghost use Rattle.std.specs.Prelude.{◌≡◌, All, IfOk, IsTrue};
 ghost use Rattle.edit_model.specs.Rows.{IsOfKind, IsRow};
 ghost use Rattle.edit_model.specs.Trials.{CanTry, HasValues};
@@ -11,7 +12,8 @@ use std::alloc::Global;
 use std::process::Abort;
 use std::test::Fail;
 
-/// Two numerical fields and a categorical one with two codes, and rules over them.
+/// The survey of the tests: two numerical fields and a categorical one with two codes, and rules over
+/// them.
 const RULES: &[u8] = b"number Turnover
 number Costs
 code Size in {small, large}
@@ -27,7 +29,8 @@ if Size in {large} then 2 Turnover >= 0
 Turnover >= -1
 ";
 
-/// A value: a numerator over a denominator, 2^127 - 1 over a denominator, or a code.
+/// A value, as a table writes it. It is a number by its numerator and denominator, 2^127 - 1 over a
+/// denominator, a code by its number from 0, or none.
 #[derive(Clone, Copy)]
 enum ValuePlan {
     Number(i64, u32),
@@ -36,6 +39,7 @@ enum ValuePlan {
     Bad,
 }
 
+// Whether a field of this kind takes the value; Bad fits each.
 fn is_of_kind(kind: &Kind, value: &Value) -> bool
     ensures { IsTrue result → IsOfKind kind.now value.now }
 {
@@ -46,6 +50,8 @@ fn is_of_kind(kind: &Kind, value: &Value) -> bool
     }
 }
 
+// Whether the values are a record over the fields: one for each, of its kind. A test asserts it before
+// the calls that require it.
 fn is_row(fields: &[Field], values: &[Value]) -> bool
     ensures { IsTrue result → IsRow fields.now values.now }
 {
@@ -58,6 +64,8 @@ fn is_row(fields: &[Field], values: &[Value]) -> bool
     }
 }
 
+// Whether the record has a value at each field of the test: a number at each of its terms, or a code at
+// its field.
 fn has_values(row: &Row, test: &Test) -> bool
     ensures { IsTrue result → HasValues row.now test.now }
 {
@@ -72,6 +80,8 @@ fn has_values(row: &Row, test: &Test) -> bool
     }
 }
 
+// Whether the record has a value at each field of the rule. A test asserts it before `holds`, which
+// requires it.
 fn can_try(row: &Row, rule: &Rule) -> bool
     ensures { IsTrue result → CanTry row.now rule.now }
 {
@@ -82,6 +92,8 @@ fn can_try(row: &Row, rule: &Rule) -> bool
         && has_values(row, &rule.conclusion)
 }
 
+// The number that is the numerator over the denominator, in lowest terms. It is Bad for the denominator 0
+// and for -2^127, which `Fraction::reduced` does not take.
 fn number(numerator: i128, denominator: u32) -> Value {
     if denominator == 0 || numerator == i128::MIN {
         return Value::Bad;
@@ -89,6 +101,7 @@ fn number(numerator: i128, denominator: u32) -> Value {
     Value::Number(Fraction::reduced(numerator, i128::from(denominator)))
 }
 
+// The value that a table plans.
 fn value_of(plan: ValuePlan) -> Value {
     match plan {
         ValuePlan::Number(numerator, denominator) => number(i128::from(numerator), denominator),
@@ -98,7 +111,7 @@ fn value_of(plan: ValuePlan) -> Value {
     }
 }
 
-/// The record of these values.
+/// The record of the survey with these values. The test ends where they are none of its fields.
 fn row_of(
     rt: &impl Abort,
     alloc: Global,
@@ -115,6 +128,7 @@ fn row_of(
     Ok(Row::new(survey, values))
 }
 
+// The copy of a record has its values, and a missing value is told as such.
 #[test]
 fn a_record_gives_its_values_and_a_copy_of_itself(rt: HostRuntime) -> Result<(), Fail> {
     let alloc = rt.alloc();
@@ -126,9 +140,11 @@ fn a_record_gives_its_values_and_a_copy_of_itself(rt: HostRuntime) -> Result<(),
     Ok(())
 }
 
+// The record at which the comparisons with 3 are asked.
 const FIVE_AND_TWO: [ValuePlan; 3] = [Number(5, 1), Number(2, 1), Code(0)];
 
-/// The place of a rule, a record, and whether the rule holds at it, None for an overflow.
+/// For each case the place of a rule in `RULES`, from 0, a record, and whether the rule holds at it, None
+/// for an overflow.
 const CASES: [(usize, [ValuePlan; 3], Option<bool>); 14] = [
     (0, FIVE_AND_TWO, Some(true)),
     (1, FIVE_AND_TWO, Some(false)),
@@ -148,13 +164,14 @@ const CASES: [(usize, [ValuePlan; 3], Option<bool>); 14] = [
     (8, [Greatest(2), Number(0, 1), Code(1)], Some(true)),
 ];
 
-/// Whether the rule holds at the record, None for an overflow.
+/// Whether the rule holds at the record, None for an overflow. The test ends where the record lacks a
+/// value that the rule asks for.
 fn answer_of(rt: &impl Abort, row: &Row, rule: &Rule) -> Option<bool> {
     assert!(rt; can_try(row, rule));
     holds(rule, row).ok()
 }
 
-/// Asks whether each rule holds at its record, and compares with the table.
+/// Asks whether each rule of the cases holds at its record, and compares the answer with the case's.
 fn answer_rules(
     rt: &impl Abort,
     alloc: Global,
@@ -169,6 +186,8 @@ fn answer_rules(
     Ok(())
 }
 
+// Each rule of the table at its record: strict and weak comparisons, conditions, and sums at the end of
+// the range.
 #[test]
 fn a_rule_holds_exactly_where_it_is_true(rt: HostRuntime) -> Result<(), Fail> {
     answer_rules(&rt, rt.alloc(), &CASES)

@@ -1,4 +1,4 @@
-//! Rule files as surveys with their first fault, and surveys as rule files.
+//! Rule files as surveys, the first fault of files that are none, and surveys printed as rule files.
 
 use edit_language::{RulesFault, print_rules, read_rules};
 use edit_model::Survey;
@@ -6,7 +6,8 @@ use std::alloc::Global;
 use std::process::Abort;
 use std::test::Fail;
 
-/// Reads a rule text of fewer than 2^32 bytes.
+/// What a rule text reads as. A text of 2^32 bytes or more ends the test, since `read_rules` asks for
+/// fewer.
 fn read(alloc: Global, text: &[u8]) -> Result<Result<Survey, RulesFault>, Fail> {
     if text.len() >= 1 << 32 {
         return Err(Fail::from("a long text"));
@@ -14,7 +15,7 @@ fn read(alloc: Global, text: &[u8]) -> Result<Result<Survey, RulesFault>, Fail> 
     Ok(read_rules(alloc, text))
 }
 
-/// The line and the number of the kind of the text's first fault, or 0 and 0 where it has none.
+/// The line, from 1, and the number of the kind of the text's first fault, or 0 and 0 where it has none.
 fn first_fault(alloc: Global, text: &[u8]) -> Result<(u32, u8), Fail> {
     match read(alloc, text)? {
         Ok(_) => Ok((0, 0)),
@@ -23,7 +24,8 @@ fn first_fault(alloc: Global, text: &[u8]) -> Result<(u32, u8), Fail> {
     }
 }
 
-/// Reads each text, and compares its first fault with the table's.
+/// Reads the text of each case, and asserts that its first fault has the line and the kind's number that
+/// stand behind it.
 fn tell_faults(rt: &impl Abort, alloc: Global, cases: &[(&[u8], u32, u8)]) -> Result<(), Fail> {
     for (text, line, kind) in cases {
         assert_eq!(rt; first_fault(alloc, text)?, (*line, *kind), "at {text:?}");

@@ -1,4 +1,4 @@
-//! Record files as sheets with their first fault, and rows as bytes.
+//! Record files as sheets, the first fault of files that are none, and rows of texts written as bytes.
 
 use edit_language::read_rules;
 use edit_model::{Survey, Value};
@@ -8,12 +8,12 @@ use std::process::Abort;
 use std::slice;
 use std::test::Fail;
 
-/// The fields `A`, which is numerical, and `Size`, of the codes `s` and `M.1`.
+/// The survey of the fields `A`, which is numerical, and `Size`, of the codes `s` and `M.1`.
 fn two_fields(alloc: Global) -> Result<Survey, Fail> {
     Ok(read_rules(alloc, b"number A\ncode Size in {s, M.1}\n")?)
 }
 
-/// Appends the texts, a `|` after each.
+/// Appends the texts, with a `|` after each.
 fn show_texts(shown: &mut Vec<u8>, texts: &Texts) -> Result<(), Fail> {
     for place in 0..texts.len() {
         shown.extend_from_slice(texts.get(place))?;
@@ -31,7 +31,8 @@ fn value_text(alloc: Global, value: &Value) -> Result<Vec<u8>, Fail> {
     }
 }
 
-/// The texts of the header, and the texts and values of each row, a line each.
+/// What a sheet has, as a text that a test compares. It has the texts of the header, and the texts and
+/// values of each row, a line each.
 fn shown(alloc: Global, sheet: &Sheet) -> Result<Vec<u8>, Fail> {
     let mut shown = Vec::new(alloc);
     show_texts(&mut shown, sheet.header())?;
@@ -46,6 +47,8 @@ fn shown(alloc: Global, sheet: &Sheet) -> Result<Vec<u8>, Fail> {
     Ok(shown)
 }
 
+// A file with byte order marks, quoted texts, line ends of two kinds and texts that are no values, and
+// what its sheet has.
 #[test]
 fn a_sheet_has_the_texts_and_the_values_of_its_rows(rt: HostRuntime) -> Result<(), Fail> {
     let survey = two_fields(rt.alloc())?;
@@ -66,7 +69,8 @@ fn a_sheet_has_the_texts_and_the_values_of_its_rows(rt: HostRuntime) -> Result<(
     Ok(())
 }
 
-/// Reads each file as one of these fields, and compares its fault with the table's.
+/// Reads each file of the table as records of the survey, and compares its fault with the table's. A file
+/// that is read without a fault ends the test.
 fn tell_faults(
     rt: &impl Abort,
     alloc: Global,
@@ -82,6 +86,7 @@ fn tell_faults(
     Ok(())
 }
 
+// Each fault but that of too many rows. Where a file has several, the first is told.
 #[test]
 fn the_first_fault_is_told(rt: HostRuntime) -> Result<(), Fail> {
     tell_faults(
@@ -106,6 +111,7 @@ fn the_first_fault_is_told(rt: HostRuntime) -> Result<(), Fail> {
     )
 }
 
+// A text with a comma or a quotation mark is written in quotation marks, and no other.
 #[test]
 fn records_are_written_with_quotes_where_needed(rt: HostRuntime) -> Result<(), Fail> {
     let mut row = Texts::new(rt.alloc());

@@ -1,11 +1,11 @@
-//! Lines as statements.
+//! Lines of rule files as statements: a declaration, a rule, nothing, or no statement at all.
 
 use rule_grammar::{LineText, Statement, read_line};
 use std::alloc::Global;
 use std::process::Abort;
 use std::test::Fail;
 
-/// What a line is, in one word.
+/// What a line of this text is, in one word.
 fn word_for(alloc: Global, text: &str) -> Result<&'static str, Fail> {
     match read_line(alloc, text.as_bytes())? {
         LineText::Empty => Ok("nothing"),
@@ -15,7 +15,7 @@ fn word_for(alloc: Global, text: &str) -> Result<&'static str, Fail> {
     }
 }
 
-/// Reads each line, and compares what it is with the table's word.
+/// Reads each line of the table, and compares what it is with the word behind it.
 fn tell_lines(rt: &impl Abort, alloc: Global, cases: &[(&str, &str)]) -> Result<(), Fail> {
     for (text, word) in cases {
         assert_eq!(rt; word_for(alloc, text)?, *word, "at {text:?}");
@@ -23,6 +23,7 @@ fn tell_lines(rt: &impl Abort, alloc: Global, cases: &[(&str, &str)]) -> Result<
     Ok(())
 }
 
+// Lines with what each is, of both kinds of declaration and of rules, and near misses of these.
 #[test]
 fn a_line_is_a_statement_or_unreadable(rt: HostRuntime) -> Result<(), Fail> {
     tell_lines(

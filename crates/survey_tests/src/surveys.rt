@@ -1,11 +1,11 @@
-//! What a survey finds, and which fields make none.
+//! Which fields make a survey and which make none, and which fields a survey finds.
 
 use edit_language::read_rules;
 use edit_model::{Field, Kind, Name, Survey, SurveyFault};
 use std::alloc::Global;
 use std::test::Fail;
 
-/// A survey of this number of fields with one name, or why they make none.
+/// A survey of `count` fields that all have one name of 32 bytes, or why they make none.
 fn fields_of_one_name(alloc: Global, count: usize) -> Result<Result<Survey, SurveyFault>, Fail> {
     let mut fields = Vec::new(alloc);
     for _ in 0..count {
@@ -18,6 +18,7 @@ fn fields_of_one_name(alloc: Global, count: usize) -> Result<Result<Survey, Surv
     Ok(Survey::new(alloc, fields, Vec::new(alloc)))
 }
 
+// One field has the name and is found; two fields with it make no survey. A name has 32 bytes at most.
 #[test]
 fn a_name_is_declared_once(rt: HostRuntime) -> Result<(), Fail> {
     let survey = fields_of_one_name(rt.alloc(), 1)?.ok().ok_or("a survey")?;
@@ -28,7 +29,7 @@ fn a_name_is_declared_once(rt: HostRuntime) -> Result<(), Fail> {
     Ok(())
 }
 
-/// A survey of one number of this weight, or why it makes none.
+/// A survey of one numerical field of this weight, or why it makes none.
 fn number_of_weight(alloc: Global, weight: u32) -> Result<Result<Survey, SurveyFault>, Fail> {
     let mut fields = Vec::new(alloc);
     fields.push(Field {
@@ -39,6 +40,7 @@ fn number_of_weight(alloc: Global, weight: u32) -> Result<Result<Survey, SurveyF
     Ok(Survey::new(alloc, fields, Vec::new(alloc)))
 }
 
+// The weights 1 and 1000 make a survey, and those beside them none.
 #[test]
 fn a_weight_is_from_1_to_1000(rt: HostRuntime) -> Result<(), Fail> {
     let none = number_of_weight(rt.alloc(), 0)?;
@@ -51,6 +53,7 @@ fn a_weight_is_from_1_to_1000(rt: HostRuntime) -> Result<(), Fail> {
     Ok(())
 }
 
+// Fields are found by their names, and path order has the numerical ones first.
 #[test]
 fn a_survey_finds_its_fields(rt: HostRuntime) -> Result<(), Fail> {
     let survey = read_rules(

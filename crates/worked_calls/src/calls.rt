@@ -1,4 +1,5 @@
-//! The calls, by the words of their commands.
+//! The worked calls, by the words of their commands: which words ask for which call, and that its answer
+//! is the output of the command.
 
 use crate::ranking::{Asked, measured_told, rank_told};
 use case_files::{Commands, Files, Role, failing};
@@ -18,10 +19,13 @@ use std::thread::Threads;
 pub struct Calls;
 
 impl Commands for Calls {
+    // Nothing is kept from one call to the next.
     fn start(_alloc: Global) -> Self {
         Calls
     }
 
+    // Each call is a case of its own. Its name alone is looked at: a call with wrong words says so in
+    // its output. None where no call has the name.
     fn role_of(words: &[&str]) -> Option<Role> {
         match words.first() {
             Some(word) if is_call(word) => Some(Role::Begins),
@@ -29,6 +33,8 @@ impl Commands for Calls {
         }
     }
 
+    // Makes the call of these words. Its fault is told as the output of a command that fails; `Err` is
+    // for want of memory alone.
     fn perform<R: Threads + Wait + Sync>(
         &mut self,
         _rt: &R,
@@ -65,7 +71,8 @@ fn is_call(word: &str) -> bool {
     )
 }
 
-// What the call of these words answers.
+// What the call of these words answers. `CallFault::Words` where its name stands alone, or it takes other
+// words.
 fn told(alloc: Global, files: &Files, words: &[&str]) -> Result<Texts, CallFault> {
     match words {
         [name @ ("rank" | "measured"), rules, records, others @ ..] => {
@@ -81,7 +88,7 @@ fn told(alloc: Global, files: &Files, words: &[&str]) -> Result<Texts, CallFault
     }
 }
 
-// Whether the call of this name takes rules and no record.
+// Whether the call of this name takes a rule file and no record.
 fn is_of_rules(name: &str) -> bool {
     matches!(
         name,
@@ -89,7 +96,8 @@ fn is_of_rules(name: &str) -> bool {
     )
 }
 
-// What a call on rules alone answers.
+// What the call `name` on the rule file `rules` answers; `others` are the words behind these two.
+// `CallFault::Words` where the call takes others; else the faults are those of the call.
 fn rules_told(
     alloc: Global,
     files: &Files,
@@ -109,7 +117,9 @@ fn rules_told(
     }
 }
 
-// What a call on rules and a record answers.
+// What the call `name` on the rule file `rules` and the record that is spelled so answers; `others` are
+// the words behind these three. `CallFault::Words` where there is no such call, or it takes others; else
+// the faults are those of the call.
 fn record_told(
     alloc: Global,
     files: &Files,
@@ -134,7 +144,9 @@ fn record_told(
     }
 }
 
-// What a call on rules and a record file answers.
+// What the call `name` on the rule file `rules` and the record file `records` answers; `others` are the
+// words behind these three. `CallFault::Words` where the call takes others; else the faults are those of
+// the call.
 fn donors_told(
     alloc: Global,
     files: &Files,
@@ -157,7 +169,10 @@ fn donors_told(
     }
 }
 
-// What is asked for by a path, a row, how many donors are asked for, and the name of a class field, if there is one.
+// What these words ask for. `path` has letters, `row` is the number of a record, from 1, and `near` is
+// how many donors are ranked at most. `class` has the name of a class field, or nothing.
+// `CallFault::Words` where it has more words or a number is none, and `CallFault::Number` for the record
+// 0.
 fn asked_by<'a>(
     path: &'a str,
     row: &str,

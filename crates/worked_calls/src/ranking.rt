@@ -1,7 +1,10 @@
 //! The nearest donors for a record of a record file, and how often two values are measured to find them.
+//! In contracts, `HasPlainNumbers` says that the numbers of a record are plain: numerators below 10^21,
+//! denominators of at most 10^6. `IsRow` says that a record has for each field a value of its kind, or
+//! none.
 ghost use Rattle.std.specs.Prelude.{◌≡◌, ◌<◌, IfOk};
 ghost use Rattle.std.specs.List.{AllByRecursion};
-ghost use Rattle.edit_model.specs.PlainNumbers.{HasPlain};
+ghost use Rattle.edit_model.specs.PlainNumbers.{HasPlainNumbers};
 ghost use Rattle.edit_model.specs.Rows.{IsRow};
 ghost use Rattle.donor_measure.specs.Yardsticks.{yardsticks_of};
 ghost use Rattle.donor_search.specs.CleanRows.{CanAllGive};
@@ -21,8 +24,9 @@ use std::marker::Brand;
 use std::sync::Arc;
 use std::sync::ledger::{Blank, Ledger};
 
-/// What a call asks for: the nearest donors, at most `near`, for the record of this number from 0, of which the path keeps
-/// fields; among all donors, or among those that have the record's code at the class field, by its name.
+/// What a call asks for: the nearest donors, at most `near`, for the record of the number `row_no`, from
+/// 0. The path keeps fields of it. They are among all donors, or, where `class_field` names a field,
+/// among those that have the record's code there.
 #[derive(Clone, Copy, Debug)]
 pub struct Asked<'a> {
     pub path: &'a str,
@@ -45,7 +49,8 @@ struct Found {
     measured: u64,
 }
 
-/// The nearest donors.
+/// The nearest donors that are asked for, as `donors` and their numbers in the record file, from 1, the
+/// nearest first. The faults are those of `found_in`.
 pub fn rank_told(
     alloc: Global,
     survey: &Survey,
@@ -61,7 +66,8 @@ pub fn rank_told(
     alone(alloc, text.into_bytes())
 }
 
-/// Whether values were measured at most so often for the nearest donors.
+/// `at most MOST` where two values were measured at most `most` times to find the nearest donors, and
+/// else how often. The faults are those of `found_in`.
 pub fn measured_told(
     alloc: Global,
     survey: &Survey,
@@ -78,7 +84,9 @@ pub fn measured_told(
     alone(alloc, text.into_bytes())
 }
 
-// What is found of a record's donors.
+// What is found of the donors of the record that is asked for, in the record file of these bytes.
+// `CallFault::Path` and `Field` where the path or the class field is none, and `Number` where a number
+// has more than 32 bits. `Record` where the file has no reading; else the faults are those of `nearest`.
 fn found_in(
     alloc: Global,
     survey: &Survey,
@@ -97,7 +105,8 @@ fn found_in(
     nearest::<Brand>(alloc, survey, &sheet, &path, row_no, among, Blank::new(1))
 }
 
-// The number of the class field, if one is named.
+// The number of the field that is named as the class field, from 0, and None where none is named.
+// `CallFault::Field` where the survey has no field of the name.
 fn class_field_of(survey: &Survey, name: Option<&str>) -> Result<Option<u32>, CallFault> {
     let Some(name) = name else {
         return Ok(None);
@@ -108,7 +117,10 @@ fn class_field_of(survey: &Survey, name: Option<&str>) -> Result<Option<u32>, Ca
     }
 }
 
-// All donors of the sheet, or those that have the row's code at the class field, where there is one.
+// The deck of all donors of the sheet, or, with a class field, of those that have the record's code
+// there. Where all numbers are plain, each of its donors has a value at each field (`measurable`), and
+// it is a deck of these records (`index`). `CallFault::Field` where the record has no code at the class
+// field.
 fn deck_for(
     alloc: Global,
     survey: &Survey,
@@ -118,7 +130,7 @@ fn deck_for(
 ) -> Result<Deck, CallFault>
     requires { AllByRecursion (IsRow survey.now.fields) sheet.now.rows }
     ensures measurable { IfOk result (λ deck. CanAllGive survey.now sheet.now.rows deck.donors) }
-    ensures index { IfOk result (λ deck. AllByRecursion HasPlain sheet.now.rows
+    ensures index { IfOk result (λ deck. AllByRecursion HasPlainNumbers sheet.now.rows
         → IsDeckOf (yardsticks_of survey.now.fields) sheet.now.rows deck) }
 {
     let Some(field) = class_field else {
@@ -133,7 +145,11 @@ fn deck_for(
     }
 }
 
-// The nearest donors for a row of which the path keeps fields, and how often two values are measured for them.
+// The nearest donors for the record of the number `row_no`, from 0, of which the path keeps fields. With
+// them comes how often two values were measured: the measure counts its own calls in a cell.
+// `CallFault::Number` where there is no such record, `Path` where the path is longer than there are
+// fields, and else the fault of `deck_for`. `blank` is one of the ledger `L` (`name`, `parts`), and
+// starts a counter of steps, which nobody reads.
 fn nearest<L: Ledger>(
     alloc: Global,
     survey: &Survey,
@@ -147,7 +163,7 @@ fn nearest<L: Ledger>(
     requires parts { blank.parts ≡ L.parts }
     requires counts { 0 < blank.parts }
     requires rows { AllByRecursion (IsRow survey.now.fields) sheet.now.rows }
-    requires plain { AllByRecursion HasPlain sheet.now.rows }
+    requires plain { AllByRecursion HasPlainNumbers sheet.now.rows }
 {
     let mut steps = Steps::<L>::start(blank);
     let measured = Cell::new(0u64);

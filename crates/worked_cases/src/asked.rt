@@ -1,4 +1,4 @@
-//! What the words of a command line ask for, as a line.
+//! What the words of a command line ask for, as one line: cases of the command line compare it.
 
 use command_words::{
     EditWords, check_asked, classed_asked, edit_asked, fill_asked, make_asked, page_asked,
@@ -7,8 +7,9 @@ use command_words::{
 use foundation::OutOfMemory;
 use std::alloc::Global;
 
-/// The line that tells what the words ask for, with its line feed: the command, its files and names in the order of its options,
-/// and then its numbers; or `nothing`. Where the words asked for two commands, both would be told.
+/// The line that tells what the words ask for, with its line feed. It has the command, its files and
+/// names in the order of its options, and then its numbers; or it is `nothing`. Where the words asked for
+/// two commands, both would be told.
 pub fn asked_line(alloc: Global, words: &[String]) -> Result<Vec<u8>, OutOfMemory> {
     let mut line = Vec::new(alloc);
     for told in [
@@ -30,7 +31,8 @@ pub fn asked_line(alloc: Global, words: &[String]) -> Result<Vec<u8>, OutOfMemor
     Ok(line)
 }
 
-// The edit that the words ask for; no text where they ask for none.
+// The edit that the words ask for, with its five files and its four numbers; no text where they ask for
+// none.
 fn edit_told(alloc: Global, words: &[String]) -> Result<String, OutOfMemory> {
     let Some(asked) = edit_asked(alloc, words)? else {
         return Ok(String::new(alloc));
@@ -39,7 +41,8 @@ fn edit_told(alloc: Global, words: &[String]) -> Result<String, OutOfMemory> {
     Ok(format!(in alloc; "edit {files} {numbers}")?)
 }
 
-// The edit by classes that the words ask for.
+// The edit by classes that the words ask for: its five files, the name of its class field and its four
+// numbers. No text where they ask for none.
 fn classed_told(alloc: Global, words: &[String]) -> Result<String, OutOfMemory> {
     let Some(asked) = classed_asked(alloc, words)? else {
         return Ok(String::new(alloc));
@@ -52,21 +55,22 @@ fn classed_told(alloc: Global, words: &[String]) -> Result<String, OutOfMemory> 
     Ok(format!(in alloc; "classed {files} {class} {numbers}")?)
 }
 
-// The five files of an edit.
+// The five files of an edit, in the order of its options.
 fn files_told(alloc: Global, asked: &EditWords) -> Result<String, OutOfMemory> {
     let (rules, records, released) = (asked.rules, asked.records, asked.released);
     let (reasons, proof) = (asked.reasons, asked.proof);
     Ok(format!(in alloc; "{rules} {records} {released} {reasons} {proof}")?)
 }
 
-// The four numbers of an edit.
+// The four numbers of an edit: its workers, its budget, the limit of a donor, and how many donors a
+// record ranks.
 fn numbers_told(alloc: Global, asked: &EditWords) -> Result<String, OutOfMemory> {
     let (workers, budget) = (asked.workers, asked.budget);
     let (limit, near) = (asked.limit, asked.near);
     Ok(format!(in alloc; "{workers} {budget} {limit} {near}")?)
 }
 
-// The check that the words ask for.
+// The check that the words ask for, with its four files; no text where they ask for none.
 fn check_told(alloc: Global, words: &[String]) -> Result<String, OutOfMemory> {
     let Some(asked) = check_asked(alloc, words)? else {
         return Ok(String::new(alloc));
@@ -76,7 +80,7 @@ fn check_told(alloc: Global, words: &[String]) -> Result<String, OutOfMemory> {
     Ok(format!(in alloc; "check {rules} {records} {released} {proof}")?)
 }
 
-// The command `rules` that the words ask for.
+// The command `rules` that the words ask for, with its file; no text where they ask for another.
 fn rules_told(alloc: Global, words: &[String]) -> Result<String, OutOfMemory> {
     let Some(asked) = rules_asked(alloc, words)? else {
         return Ok(String::new(alloc));
@@ -85,7 +89,7 @@ fn rules_told(alloc: Global, words: &[String]) -> Result<String, OutOfMemory> {
     Ok(format!(in alloc; "rules {rules}")?)
 }
 
-// The filling that the words ask for.
+// The filling that the words ask for, with its files and its budget; no text where they ask for none.
 fn fill_told(alloc: Global, words: &[String]) -> Result<String, OutOfMemory> {
     let Some(asked) = fill_asked(alloc, words)? else {
         return Ok(String::new(alloc));
@@ -95,7 +99,8 @@ fn fill_told(alloc: Global, words: &[String]) -> Result<String, OutOfMemory> {
     Ok(format!(in alloc; "fill {rules} {records} {released} {budget}")?)
 }
 
-// The panel that the words ask for.
+// The edit of a panel that the words ask for, with its files, its key and its budget; no text where they
+// ask for none.
 fn panel_told(alloc: Global, words: &[String]) -> Result<String, OutOfMemory> {
     let Some(asked) = panel_asked(alloc, words)? else {
         return Ok(String::new(alloc));
@@ -108,7 +113,8 @@ fn panel_told(alloc: Global, words: &[String]) -> Result<String, OutOfMemory> {
     )?)
 }
 
-// The survey that the words ask to be made.
+// The survey that the words ask to be made, with its files, the number to start from and how many rows.
+// No text where they ask for none.
 fn make_told(alloc: Global, words: &[String]) -> Result<String, OutOfMemory> {
     let Some(asked) = make_asked(alloc, words)? else {
         return Ok(String::new(alloc));
@@ -118,7 +124,8 @@ fn make_told(alloc: Global, words: &[String]) -> Result<String, OutOfMemory> {
     Ok(format!(in alloc; "make {rules} {records} {start} {rows}")?)
 }
 
-// The page that the words ask for.
+// The page that the words ask for, with its files; no text where they ask for none. It is a command of
+// another program.
 fn page_told(alloc: Global, words: &[String]) -> Result<String, OutOfMemory> {
     let Some(asked) = page_asked(alloc, words)? else {
         return Ok(String::new(alloc));

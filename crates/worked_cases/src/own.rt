@@ -1,25 +1,27 @@
-//! The commands beside those of files.
+//! The commands of `worked_cases`, beside those of files: runs of the program, what its words ask for,
+//! and what is to fail.
 
 use case_files::{Role, number_of};
 use edit_desk::Failure;
 
-/// A command beside those of files.
+/// A command of `worked_cases`, as its words spell it.
 #[derive(Clone, Copy)]
 pub enum Own<'a> {
     /// `forxainde WORD ..`: the program is run.
     Run { words: &'a [&'a str] },
     /// `words WORD ..`: shows what the words ask for.
     Words { words: &'a [&'a str] },
-    /// `fail call N keep K`: a call of the desk of the next run fails.
+    /// `fail call N keep K`: in the next run the N-th call of the desk fails, from 1. If it is a store,
+    /// the file has the first K bytes all the same.
     FailCall { failure: Failure },
-    /// `fail line N`: a printed line of the next run fails.
+    /// `fail line N`: in the next run the N-th printed line fails, from 1.
     FailLine { number: u64 },
     /// `calls`: shows the calls of the desk in the last run.
     Calls,
 }
 
 impl<'a> Own<'a> {
-    /// The command of these words, if there is one.
+    /// The command of these words. None where there is none, or a number in it is not in form.
     pub fn of(words: &'a [&'a str]) -> Option<Own<'a>> {
         match words {
             ["forxainde", words @ ..] => Some(Own::Run { words }),

@@ -1,4 +1,5 @@
-//! Runs of the program over files in memory.
+//! Runs of the program over files in memory, with calls of the desk and printed lines that fail where a
+//! case asks for that.
 
 use crate::asked::asked_line;
 use crate::own::Own;
@@ -13,7 +14,9 @@ use std::mem;
 use std::sync::Wait;
 use std::thread::Threads;
 
-/// The failures that are asked of the next run, and the calls of the last one.
+/// What is kept from one command to the next. `failures` are the calls of the desk that are to fail in
+/// the next run. `failing_line` is the number, from 1, of the printed line that is to fail. `calls` are
+/// the lines that tell what the last run asked of the desk.
 #[derive(Drop)]
 pub struct Runs {
     failures: Vec<Failure>,
@@ -22,6 +25,7 @@ pub struct Runs {
 }
 
 impl Commands for Runs {
+    // At the beginning of a file nothing is to fail, and there was no run.
     fn start(alloc: Global) -> Self {
         Runs {
             failures: Vec::new(alloc),
@@ -30,10 +34,13 @@ impl Commands for Runs {
         }
     }
 
+    // A case begins with a run or with `words`; None where the words are no command.
     fn role_of(words: &[&str]) -> Option<Role> {
         Some(Own::of(words)?.role())
     }
 
+    // Does the command of these words. The case of no command can't come, since the file was read by
+    // `role_of`.
     fn perform<R: Threads + Wait + Sync>(
         &mut self,
         rt: &R,
@@ -59,7 +66,8 @@ impl Commands for Runs {
 }
 
 impl Runs {
-    // Runs the program over the files, that of pages for the word `page`, and gives the lines that it prints and, where it is not 0, its status.
+    // Runs the program over the files, that of pages where the first word is `page`. The output is what
+    // it prints and, where it is not 0, its status. The failures that were asked for are used up by it.
     fn run<R: Threads + Wait + Sync>(
         &mut self,
         rt: &R,
@@ -88,13 +96,13 @@ impl Runs {
     }
 }
 
-// The line that tells what the words ask for.
+// The line that tells what the words ask for, as the output of `words`.
 fn told(alloc: Global, words: &[&str]) -> Result<Vec<Vec<u8>>, OutOfMemory> {
     let line = asked_line(alloc, &owned(alloc, words)?)?;
     spelled_lines(alloc, &line)
 }
 
-// The words, each in memory of its own.
+// Copies of the words, each in memory of its own, as the program takes them.
 fn owned(alloc: Global, words: &[&str]) -> Result<Vec<String>, AllocError> {
     let mut all = Vec::new(alloc);
     for word in words {
@@ -103,7 +111,8 @@ fn owned(alloc: Global, words: &[&str]) -> Result<Vec<String>, AllocError> {
     Ok(all)
 }
 
-// The lines that tell of these calls.
+// The calls of the desk as lines: `fetch` or `store`, the name, and whether the call failed, such as
+// `store page failed`.
 fn call_lines(alloc: Global, calls: &[Call]) -> Result<Vec<Vec<u8>>, OutOfMemory> {
     let mut lines = Vec::new(alloc);
     for call in calls {
@@ -115,7 +124,7 @@ fn call_lines(alloc: Global, calls: &[Call]) -> Result<Vec<Vec<u8>>, OutOfMemory
     Ok(lines)
 }
 
-// These lines once more.
+// Copies of these lines.
 fn copied(alloc: Global, lines: &[Vec<u8>]) -> Result<Vec<Vec<u8>>, OutOfMemory> {
     let mut all = Vec::new(alloc);
     for line in lines {

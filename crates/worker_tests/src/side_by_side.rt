@@ -1,4 +1,5 @@
-//! Records that two workers edit, where a gate tells which of them goes first. What is expected was worked out by hand.
+//! Records that two workers edit, where a gate tells which of them goes first. What is expected was
+//! worked out by hand.
 ghost use Rattle.std.specs.Prelude.{◌≤◌, ◌<◌, ◌^◌, length};
 
 use donor_book::Entry;
@@ -26,7 +27,8 @@ const TURNS: u32 = 1_000_000_000;
 /// How often the worker that drew the other row looks away, so that the one that was held can end first.
 const LOOKS: u32 = 200_000;
 
-/// The gate that holds the worker that drew one row until another row was drawn.
+/// The gate that holds the worker that drew the row `row_no` until the row `until` was drawn. `drawn` and
+/// `given_up` are 0 or 1: whether that row was drawn, and whether the held worker gave up.
 #[derive(Drop)]
 struct Hold {
     row_no: u32,
@@ -36,6 +38,7 @@ struct Hold {
 }
 
 impl Hold {
+    // The gate that holds at the row `row_no` until the row `until` is drawn; neither is yet.
     fn new(row_no: u32, until: u32) -> Hold {
         Hold {
             row_no,
@@ -45,7 +48,8 @@ impl Hold {
         }
     }
 
-    // Waits for the other row, and tells whether it was drawn.
+    // Waits for the other row, and tells whether it was drawn. It looks a limited number of times, so
+    // that a worker that is never let go fails the test and doesn't hang it.
     fn waits(&self) -> bool {
         for _ in 0..TURNS {
             if self.drawn.load(Ordering::SeqCst) == 1 {
@@ -56,12 +60,14 @@ impl Hold {
         false
     }
 
+    // Whether the held worker went on without the other row: then the test shows nothing.
     fn has_given_up(&self) -> bool {
         self.given_up.load(Ordering::SeqCst) == 1
     }
 }
 
 impl Gate for Hold {
+    // Notes that the other row was drawn, or holds the worker that drew the first.
     fn at(&self, _worker: u32, row_no: u32) {
         if row_no == self.until {
             self.drawn.store(1, Ordering::SeqCst);
@@ -72,13 +78,15 @@ impl Gate for Hold {
     }
 }
 
-/// The gate that also keeps the worker that drew the other row waiting, while the one that was held goes on.
+/// The gate that holds as `hold` does. It also keeps the worker that drew the other row waiting, while
+/// the one that was held goes on.
 #[derive(Drop)]
 struct Relay {
     hold: Hold,
 }
 
 impl Gate for Relay {
+    // Holds as the inner gate does, and then keeps the worker that drew the other row waiting.
     fn at(&self, worker: u32, row_no: u32) {
         self.hold.at(worker, row_no);
         if row_no == self.hold.until {
@@ -97,7 +105,9 @@ struct Seen {
     pool: Pool,
 }
 
-// What becomes of the records of a file, by the rules of another, with one donor a record, each given once.
+// What becomes of the records of the bytes `records`, by the rules of the bytes `rules`, which `workers`
+// workers edit. Each record ranks one donor, and each donor is given once. Bytes without a reading are
+// answered as refused memory.
 fn edited<R: Threads + Wait + Sync, G: Gate>(
     rt: &R,
     alloc: Global,
@@ -141,12 +151,13 @@ fn edited<R: Threads + Wait + Sync, G: Gate>(
     })
 }
 
-// Whether the claim is of this row, which ranks the first record alone, and was given this.
+// Whether the claim is of the row `row_no`, ranks the first record alone, and had this reply.
 fn is_claim(entry: &Entry, row_no: u32, reply: Option<u32>) -> bool {
     entry.row_no == row_no && entry.ranking.as_slice() == [0].as_slice() && entry.reply == reply
 }
 
-// Whether the record has this whole number at this field.
+// Whether the record of this end was given the whole number `number` at the field. A record that was
+// given no values has none.
 fn has_number(end: &RowEnd, field: u32, number: i128) -> bool {
     let Some(gift) = &end.gift else {
         return false;
@@ -157,8 +168,12 @@ fn has_number(end: &RowEnd, field: u32, number: i128) -> bool {
     }
 }
 
+// Two numerical fields that are at least 1, of which the second is at most 9. A record with one value
+// lacks the other alone.
 const PAIR_RULES: &[u8] = b"number A\nnumber B\nA >= 1\nB >= 1\nB <= 9\n";
 
+// Rows 1 and 2 lack B and rank row 0, which gives once: one of them is given it, and the later claim
+// nobody.
 #[test]
 fn two_workers_give_one_donor_once(rt: HostRuntime) -> Result<(), Fail> {
     let Seen { history, .. } = edited(
@@ -174,6 +189,7 @@ fn two_workers_give_one_donor_once(rt: HostRuntime) -> Result<(), Fail> {
     Ok(())
 }
 
+// With one worker row 1 claims first and takes 4. Row 2 is given nobody and takes 1, the nearest to 0.
 #[test]
 fn one_worker_claims_in_row_order(rt: HostRuntime) -> Result<(), Fail> {
     let Seen { ends, history, .. } = edited(
@@ -190,6 +206,7 @@ fn one_worker_claims_in_row_order(rt: HostRuntime) -> Result<(), Fail> {
     Ok(())
 }
 
+// Row 0 is held until row 1 was drawn: so another worker draws while one is held. Both rows are clean.
 #[test]
 fn a_worker_draws_while_another_is_held(rt: HostRuntime) -> Result<(), Fail> {
     let gate = Hold::new(0, 1);
@@ -207,6 +224,8 @@ fn a_worker_draws_while_another_is_held(rt: HostRuntime) -> Result<(), Fail> {
     Ok(())
 }
 
+// Row 1 is held until row 3 was drawn. So the other worker has done with row 2, and has claimed for it,
+// before row 1 claims.
 #[test]
 fn a_worker_claims_before_it_draws_again(rt: HostRuntime) -> Result<(), Fail> {
     let gate = Relay {
@@ -227,6 +246,8 @@ fn a_worker_claims_before_it_draws_again(rt: HostRuntime) -> Result<(), Fail> {
     Ok(())
 }
 
+// B is changed to 7, for which the system without B was derived: a reader that comes later finds it in
+// the pool.
 #[test]
 fn a_new_reader_finds_what_a_worker_derived(rt: HostRuntime) -> Result<(), Fail> {
     let Seen { ends, pool, .. } = edited(

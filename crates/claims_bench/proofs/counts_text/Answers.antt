@@ -10,8 +10,10 @@ pub returns : goal.returns
 returns c =
     let given : c.count-given.result ≡ length (filter (λ (w : Won). is_some w.reply) c.args.history.now) =
     count_from_yields_List c.filter.result c.count-given.result c.count-given.ensures.ran
-    (YieldsList-from_filter _ (λ (w : Won). is_some w.reply) (YieldsList-from_slice c.args.history.now (cc)) c.filter.ensures.closure (λ x b q k. search (rules, tests))) in
+    (YieldsList-from_filter _ (λ (w : Won). is_some w.reply) (YieldsList-from_slice c.args.history.now (cc)) c.filter.ensures.closure
+    (λ x b q k. search (rules, tests))) in
     let nobody : c.count-nobody.result ≡ length (filter (λ (w : Won). is_none w.reply) c.args.history.now) =
     count_from_yields_List c.filter-2.result c.count-nobody.result c.count-nobody.ensures.ran
-    (YieldsList-from_filter _ (λ (w : Won). is_none w.reply) (YieldsList-from_slice c.args.history.now (cc)) c.filter-2.ensures.closure (λ x b q k. search (rules, tests))) in
+    (YieldsList-from_filter _ (λ (w : Won). is_none w.reply) (YieldsList-from_slice c.args.history.now (cc)) c.filter-2.ensures.closure
+    (λ x b q k. search (rules, tests))) in
     rw (← given, ← nobody) c.in_ok-format.ensures.ok

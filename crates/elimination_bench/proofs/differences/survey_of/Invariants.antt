@@ -6,4 +6,5 @@ use Rattle.elimination_bench.proofs.NameLaws.{letter_names}
 use Rattle.elimination_bench.proofs.differences.survey_of.Given as goal
 
 abbrev pub invariant-loop-i : goal.invariant-loop-i
-invariant-loop-i l = (shape_of l.fields.items ≡ replicate l.i Numerical) × (map (λ (f : Field). f.name) l.fields.items ≡ take l.i letter_names) × All IsField l.fields.items
+invariant-loop-i l = (shape_of l.fields.items ≡ replicate l.i Numerical) × (map (λ (f : Field). f.name) l.fields.items ≡ take l.i letter_names)
+    × All IsField l.fields.items

@@ -5,7 +5,8 @@ use Rattle.elimination_bench.proofs.ListingLaws.{lines-over, refused-generated}
 use Rattle.elimination_bench.proofs.listing.first_refused.Goals as goal
 
 pub check_steps-requires-clause-over : goal.check_steps-requires-clause-over
-check_steps-requires-clause-over c = lines-over _ c.deref.result.now (c.in_ok-survey.ensures ∙ ap shape_with c.numbers.ensures) (c.deref.ensures.value ∙ c.in_ok-given.ensures)
+check_steps-requires-clause-over c = lines-over _ c.deref.result.now (c.in_ok-survey.ensures ∙ ap shape_with c.numbers.ensures)
+    (c.deref.ensures.value ∙ c.in_ok-given.ensures)
 
 pub check_steps-requires-clause-kept : goal.check_steps-requires-clause-kept
 check_steps-requires-clause-kept c f has = absurd (cc (sym has ∙ c.empty.ensures.none f))
@@ -14,7 +15,8 @@ pub returns-in-Ok : goal.returns-in-Ok
 returns-in-Ok c = refused-generated _ _ _ _ _ _ c.args.listing c.args.count _ (record {
   shape = c.in_ok-survey.ensures ∙ ap shape_with c.numbers.ensures;
   lines = c.deref.ensures.value ∙ c.in_ok-given.ensures;
-  usable_all = c.deref-2.ensures.value ∙ c.in_ok-usable.ensures.items_if_clones_equal (λ y e. e) ∙ ap (λ n. replicate n true) (omega (arith, c.len.ensures, ap (λ (ls : List LineParts). length ls) c.deref.ensures.value));
+  usable_all = c.deref-2.ensures.value ∙ c.in_ok-usable.ensures.items_if_clones_equal (λ y e. e)
+      ∙ ap (λ n. replicate n true) (omega (arith, c.len.ensures, ap (λ (ls : List LineParts). length ls) c.deref.ensures.value));
   unknown = c.in_ok-row.ensures.unknown;
   none = c.empty.ensures.none;
   listed = c.deref-3.ensures.value ∙ c.in_ok-steps.ensures;
@@ -24,7 +26,8 @@ pub returns-in-Err-Bad : goal.returns-in-Err-Bad
 returns-in-Err-Bad c = refused-generated _ _ _ _ _ _ c.args.listing c.args.count _ (record {
   shape = c.in_ok-survey.ensures ∙ ap shape_with c.numbers.ensures;
   lines = c.deref.ensures.value ∙ c.in_ok-given.ensures;
-  usable_all = c.deref-2.ensures.value ∙ c.in_ok-usable.ensures.items_if_clones_equal (λ y e. e) ∙ ap (λ n. replicate n true) (omega (arith, c.len.ensures, ap (λ (ls : List LineParts). length ls) c.deref.ensures.value));
+  usable_all = c.deref-2.ensures.value ∙ c.in_ok-usable.ensures.items_if_clones_equal (λ y e. e)
+      ∙ ap (λ n. replicate n true) (omega (arith, c.len.ensures, ap (λ (ls : List LineParts). length ls) c.deref.ensures.value));
   unknown = c.in_ok-row.ensures.unknown;
   none = c.empty.ensures.none;
   listed = c.deref-3.ensures.value ∙ c.in_ok-steps.ensures;

@@ -1,7 +1,7 @@
 use Rattle.std.proofs.Common.{◌≡◌, ◌<◌, ℕ, All, List, [], length, arith, sym, subst}
 use Rattle.std.specs.List.{AllByRecursion}
 use Rattle.std.proofs.lemmas.List.Elements.{All-from_recursion}
-use Rattle.edit_model.specs.PlainNumbers.{HasPlain}
+use Rattle.edit_model.specs.PlainNumbers.{HasPlainNumbers}
 use Rattle.edit_model.specs.Rows.{IsRow}
 use Rattle.edit_model.specs.declared.field.Field.{Field}
 use Rattle.edit_model.specs.declared.value.Value.{Value}
@@ -26,8 +26,8 @@ pub ranking-requires-clause-row : goal.ranking-requires-clause-row
 ranking-requires-clause-row g c =
     let below : c.args.row_no < length c.args.sheet.now.rows = omega (arith, c.if-row_no-len.false, c.len.ensures.rows) in
     let is = row-is c.args.survey.now.fields c.args.sheet.now.rows c.args.row_no c.row-row.result.now c.requires.rows below c.row-row.ensures in
-    let has : HasPlain c.row-row.result.now = subst (λ (r : List Value). HasPlain r) (sym c.row-row.ensures)
-    (All-from_recursion HasPlain c.args.sheet.now.rows c.requires.plain c.args.row_no [] below) in
+    let has : HasPlainNumbers c.row-row.result.now = subst (λ (r : List Value). HasPlainNumbers r) (sym c.row-row.ensures)
+    (All-from_recursion HasPlainNumbers c.args.sheet.now.rows c.requires.plain c.args.row_no [] below) in
     subst (λ (ys : List Yardstick). HasMeasurable ys c.kept_set.result c.row-row.result.now) (sym c.new-measure.ensures.yardsticks)
     (has_kept c.args.survey.now.fields c.row-row.result.now c.kept_set.result is has (λ f within at. c.kept_set.ensures.held f at))
 

@@ -1,6 +1,6 @@
 use Rattle.std.proofs.Common.{◌≡◌, ◌+◌, ◌≤◌, ◌++◌, length}
 use Rattle.claims_bench.specs.inner.Workers.{passes_of, seats_of}
-use Rattle.claims_bench.proofs.tally.taken_apart.Given as goal
+use Rattle.claims_bench.proofs.tally.seats_and_passes.Given as goal
 
 abbrev pub invariant-loop-worker : goal.invariant-loop-worker
 invariant-loop-worker l =
