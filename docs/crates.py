@@ -16,8 +16,10 @@ from xml.sax.saxutils import escape
 TOP = os.path.dirname(os.path.dirname(os.path.abspath(__file__)))
 PAGE = os.path.join(TOP, 'docs', 'architecture.md')
 PICTURE = os.path.join(TOP, 'docs', 'crates.svg')
-PROGRAM = 'edit_program'
-HEAD = ('| Level | Crate | Does | Knows nothing of | In the program | Code | Definitions | Proofs |\n'
+PROGRAMS = ['edit_program', 'release_page']
+# what a crate is filled with in the picture, by the programs that it is part of
+FILLS = {'both': '#1f4e79', 'edit_program': '#1f4e79', 'release_page': '#2e6b4f', 'neither': '#5f6b76'}
+HEAD = ('| Level | Crate | Does | Knows nothing of | Program | Code | Definitions | Proofs |\n'
         '|---|---|---|---|---|---|---|---|\n')
 ROW = re.compile(r'^\| \d+ \| `(\w+)` \| (.*) \|$', re.M)
 TABLE = re.compile(r'^\| Level \| Crate \|.*\n(?:\|.*\n)+', re.M)
@@ -70,6 +72,12 @@ def first_sentence(name):
     return re.sub(r'\[(`[^`]+`)\]', r'\1', told.rstrip('.'))
 
 
+def program_of(name, below):
+    """Which of the two programs the crate is, or is part of: `both`, the name of one, or `neither`."""
+    programs = [it for it in PROGRAMS if name == it or name in below[it]]
+    return 'both' if len(programs) == 2 else programs[0] if programs else 'neither'
+
+
 def lines_of(name, folder, ending):
     files = glob.glob(os.path.join(TOP, 'crates', name, folder, '**', '*' + ending), recursive=True)
     return sum(read(it).count('\n') for it in files)
@@ -79,14 +87,15 @@ def table_of(crates, levels, below, unknown):
     rows = []
     for name in sorted(crates, key=lambda it: levels[it]):
         counts = [lines_of(name, 'src', '.rt'), lines_of(name, 'specs', '.antt'), lines_of(name, 'proofs', '.antt')]
-        inside = 'yes' if name == PROGRAM or name in below[PROGRAM] else 'no'
+        program = program_of(name, below)
+        inside = f'`{program}`' if program in PROGRAMS else program
         cells = [str(levels[name]), f'`{name}`', first_sentence(name), unknown.get(name, ''), inside]
         rows.append('| ' + ' | '.join(cells + [f'{it:,}' for it in counts]) + ' |\n')
     return HEAD + ''.join(rows)
 
 
 def picture_of(crates, levels, below):
-    """A box for each crate, the lowest level at the bottom; what is no part of the program is lighter. A line leads to
+    """A box for each crate, the lowest level at the bottom, coloured by the programs that it is part of. A line leads to
     each crate that it stands on and that none of the others stands on."""
     wide, high, gap, step = 150, 26, 10, 62
     tiers = {}
@@ -108,7 +117,7 @@ def picture_of(crates, levels, below):
             (x, y), (u, v) = place[name], place[it]
             parts.append(f'<line x1="{x + wide // 2}" y1="{y + high}" x2="{u + wide // 2}" y2="{v}" stroke="#b0b8c0"/>')
     for name, (x, y) in place.items():
-        fill = '#1f4e79' if name == PROGRAM or name in below[PROGRAM] else '#5f6b76'
+        fill = FILLS[program_of(name, below)]
         parts.append(f'<rect x="{x}" y="{y}" width="{wide}" height="{high}" rx="4" fill="{fill}"/>')
         parts.append(f'<text x="{x + wide // 2}" y="{y + 17}" font-family="sans-serif" font-size="13" fill="#ffffff" '
                      f'text-anchor="middle">{escape(name)}</text>')

@@ -148,7 +148,7 @@ def contract_starts(file, function, chosen):
 
 
 def crate_order():
-    """The crates in the order in which crates.txt names them, lowest first."""
+    """The crates in the order in which crates.txt names them."""
     text = open(os.path.join(TOP, 'crates.txt'), encoding='utf-8').read()
     return re.findall(r'^(\w+)[^:\n#]*:', text, re.M)
 
