@@ -87,7 +87,8 @@ with_step_numbers number (Fix field part) = Fix field (number part)
 
 -- one more step, whose parts have their steps
 abbrev pub with_step : Element → (ℕ → Element) → Step → List Written → List Written
-with_step element maker step done = done ++ record { element = element; step = with_step_numbers (λ i. step_number done (maker i)) step } ∷ []
+with_step element maker step done =
+    done ++ record { element = element; step = with_step_numbers (λ i. step_number done (maker i)) step } ∷ []
 
 -- whether one of the steps proves the element
 abbrev pub has_step : Element → List Written → Bool
