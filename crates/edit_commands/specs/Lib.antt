@@ -1,4 +1,1 @@
-pub mod CheckRun
-pub mod MakeRun
-pub mod RulesRun
 pub mod inner

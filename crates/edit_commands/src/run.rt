@@ -10,28 +10,28 @@
 //! they ask for that command.
 ghost use Rattle.std.specs.Prelude.{◌≡◌, ◌≢◌, IfSome};
 ghost use Rattle.command_words.specs.Asked.{ForCheck, ForClassed, ForEdit, ForFill, ForMake, ForPanel, ForRules, IsNoCommand};
-ghost use Rattle.edit_commands.specs.CheckRun.{IsCheckComplete, IsCheckStopped, IsChecked};
+ghost use Rattle.check_command.specs.CheckRun.{IsCheckComplete, IsCheckStopped, IsChecked};
 ghost use Rattle.edit_command.specs.ClassedRun.{IsClassedComplete, IsClassedDue, IsClassedRun, IsClassedStopped};
 ghost use Rattle.edit_command.specs.EditRun.{IsEditComplete, IsEditStopped, IsEdited};
 ghost use Rattle.fill_command.specs.FillRun.{IsFillComplete, IsFillDue, IsFillRun, IsFillStopped};
 ghost use Rattle.panel_command.specs.PanelInput.{IsPanelDue};
 ghost use Rattle.panel_command.specs.PanelRun.{IsPanelComplete, IsPanelRun, IsPanelStopped};
-ghost use Rattle.edit_commands.specs.MakeRun.{IsMakeComplete, IsMakeStopped, IsSurveyMade};
+ghost use Rattle.make_command.specs.MakeRun.{IsMakeComplete, IsMakeStopped, IsSurveyMade};
 ghost use Rattle.run_parts.specs.Commands.{HasReleased};
 ghost use Rattle.run_parts.specs.Readings.{AnswersDue, IsCheckDue, IsDue, IsRulesDue};
-ghost use Rattle.edit_commands.specs.RulesRun.{IsRuled, IsRulesComplete, IsRulesStopped};
+ghost use Rattle.rules_command.specs.RulesRun.{IsRuled, IsRulesComplete, IsRulesStopped};
 ghost use Rattle.run_parts.specs.Run.{IsRefused, ran, word_refusals};
 
 use crate::asked::{Asked, read_words};
-use crate::check_run::run_check;
-use crate::make_run::run_make;
-use crate::rules_run::run_rules;
+use check_command::run_check;
 use edit_command::{run_classed, run_edit};
 use edit_desk::{Desk, Printer};
 use fill_command::run_fill;
 use foundation::OutOfMemory;
+use make_command::run_make;
 use panel_command::run_panel;
 use record_workers::Gate;
+use rules_command::run_rules;
 use run_parts::{OUT_OF_MEMORY, Status, USAGE, refuse};
 use std::alloc::Global;
 use std::sync::Wait;

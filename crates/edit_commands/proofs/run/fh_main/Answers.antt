@@ -1,9 +1,9 @@
 use Rattle.std.proofs.Common.{inl, refl}
-use Rattle.edit_commands.specs.CheckRun.{check_refusals}
+use Rattle.check_command.specs.CheckRun.{check_refusals}
 use Rattle.edit_command.specs.ClassedRun.{classed_command}
 use Rattle.edit_command.specs.EditRun.{edit_command}
-use Rattle.edit_commands.specs.MakeRun.{make_refusals}
-use Rattle.edit_commands.specs.RulesRun.{rules_refusals}
+use Rattle.make_command.specs.MakeRun.{make_refusals}
+use Rattle.rules_command.specs.RulesRun.{rules_refusals}
 use Rattle.fill_command.specs.FillRun.{fill_command}
 use Rattle.panel_command.specs.PanelRun.{panel_command}
 use Rattle.run_parts.specs.Commands.{refusals_of}

@@ -1,0 +1,2 @@
+pub mod AuditLaws
+pub mod RunLaws

@@ -1,0 +1,2 @@
+pub mod CheckRun
+pub mod inner

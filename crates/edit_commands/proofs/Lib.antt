@@ -1,4 +1,0 @@
-pub mod AuditLaws
-pub mod MakeLaws
-pub mod RulesLaws
-pub mod RunLaws

@@ -1,0 +1,2 @@
+pub mod MakeRun
+pub mod inner
