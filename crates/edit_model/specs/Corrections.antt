@@ -77,7 +77,7 @@ is_first (false ∷ first) (true ∷ second) = true
 is_first (true ∷ first) (false ∷ second) = false
 is_first (true ∷ first) (true ∷ second) = is_first first second
 
--- the choice among the corrections of least weight: the first of their words
+-- which fields are changed where several corrections have the least weight: those of the first of their words
 pub record IsFirstLeast (survey : SurveyParts) (row : List Value) (word : List Bool) : Type 0 where
   pub reached : (p : Point) × IsLeastCorrection survey row p × (word_of survey row p ≡ word)
   pub first : (p : Point) → IsLeastCorrection survey row p → IsTrue (is_first word (word_of survey row p))

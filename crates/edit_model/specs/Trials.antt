@@ -48,18 +48,18 @@ pub record AgreesOnRule (row : List Value) (p : Point) (rule : Rule) : Type 0 wh
 
 -- ---- a rule that is tried at a record, in numbers of at most 127 bits
 
--- the sum so far, and a value times a factor; a value that is no number adds nothing
+-- the sum so far, and a value times a factor; None where a number leaves the range; a value that is no number adds nothing
 abbrev pub sum_with : Ratio → ℤ → Value → Option Ratio
 sum_with sum k (Number x) = scaled (ratio_of x) k >>? (λ product. added sum product)
 sum_with sum k (Code c) = Some sum
 sum_with sum k Bad = Some sum
 
--- the sum so far, and the values times the factors of the terms, in the order of the terms
+-- the sum so far, and the values times the factors of the terms, in their order; None where a number leaves the range
 abbrev pub sum_over : List Term → List Value → Ratio → Option Ratio
 sum_over [] row sum = Some sum
 sum_over (term ∷ terms) row sum = sum_with sum term.factor (value_of row term.field) >>? (λ next. sum_over terms row next)
 
--- the constant over 1, and then the terms
+-- the sum of a linear test at a record: its constant over 1, and then its terms; None where a number leaves the range
 abbrev pub trial_sum : Linear → List Value → Option Ratio
 trial_sum linear row = sum_over linear.terms row (record { numerator = linear.constant; denominator = pos 1 })
 

@@ -23,14 +23,14 @@ const MOST_FIELDS: usize = 64;
 /// How many rules a survey may have.
 const MOST_RULES: usize = 500;
 
-// Whether each field is well formed.
+// Whether each field is well formed: its name, its weight, and its scale or codes are within the limits.
 fn are_fields(fields: &[Field]) -> bool
     ensures { IsTrue result ↔ All IsField fields.now }
 {
     fields.iter().all(is_field)
 }
 
-// Whether each rule fits these fields.
+// Whether each rule fits these fields, and has a form that the editor takes.
 fn are_rules(fields: &[Field], rules: &[Rule]) -> bool
     ensures { IsTrue result ↔ All (IsRule fields.now) rules.now }
 {

@@ -21,7 +21,7 @@ pub fn is_clean(survey: &Survey, row: &Row) -> bool
     !has_bad(row.values()) && hold_all(survey.rules(), row)
 }
 
-// Whether some value is Bad.
+// Whether some value is Bad, which is missing or faulty.
 fn has_bad(values: &[Value]) -> bool
     ensures { result ≡ list_any is_bad values.now }
 {

@@ -17,7 +17,7 @@ impl fmt::Display for SurveyFault {
 
     ghost output = { λ fault. Some (fault_text fault) };
 
-    // Writes what is printed of the fault, without a line feed.
+    // Writes the fault in words, as it is printed, without a line feed.
     fn fmt<W: fmt::Write>(&self, f: &mut fmt::Formatter<W>) -> fmt::Result {
         f.write_str(match self {
             SurveyFault::Malformed => "the survey is not well formed",
@@ -34,7 +34,7 @@ impl From<OutOfMemory> for SurveyFault {
 
     ghost from_gives = { λ _ fault. fault ≡ faults.OutOfMemory };
 
-    // Memory that is refused is one of the faults.
+    // Refused memory becomes the fault `OutOfMemory`, so that `?` passes it on.
     fn from(_refused: OutOfMemory) -> Self {
         SurveyFault::OutOfMemory
     }

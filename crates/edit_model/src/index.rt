@@ -9,8 +9,8 @@ use crate::name_table::NameTable;
 use foundation::OutOfMemory;
 use std::alloc::Global;
 
-/// The table of the fields' names, which are distinct. The place of a name in it is the number of its
-/// field.
+/// The table of the fields' names, which are distinct. The place of a name in it, from 0, is the number of
+/// its field, so that a survey finds a field by its name.
 pub(crate) fn name_table(alloc: Global, fields: &[Field]) -> Result<NameTable, OutOfMemory>
     requires { AllPairs (λ f g. f.name ≢ g.name) fields.now }
     ensures { IfOk result (λ table. table ≡ names_of fields.now) }
@@ -32,8 +32,8 @@ fn push_if(wanted: bool, numbers: &mut Vec<u32>, number: u32) -> Result<(), OutO
     Ok(())
 }
 
-/// The numbers of the numerical fields where `numerical` is true, and else those of the categorical ones,
-/// in declared order.
+/// The numbers, from 0, of the numerical fields where `numerical` is true, and else those of the categorical
+/// ones, in declared order. There are at most 64 fields, so that each number fits 32 bits.
 pub(crate) fn field_numbers(
     alloc: Global,
     fields: &[Field],

@@ -32,7 +32,7 @@ impl NameTable {
         }
     }
 
-    /// Puts a name last that is not in the table yet.
+    /// Puts a name behind the others. The caller knows that it is not in the table yet.
     pub(crate) fn push(&mut self, alloc: Global, name: &Name) -> Result<(), OutOfMemory>
         requires { All (λ n. n ≢ name.now) self.old }
         ensures { OnOk result (self.new ≡ self.old ++ name.now ∷ []) }

@@ -62,7 +62,7 @@ impl Row {
         self.values[field as usize] = value;
     }
 
-    /// An equal record.
+    /// A copy of the record, with the same values, in memory of its own.
     pub fn copy(&self, alloc: Global) -> Result<Row, OutOfMemory>
         ensures { IfOk result (λ row. row ≡ self.now) }
     {

@@ -38,9 +38,9 @@ impl Model for Survey {
 }
 
 impl Survey {
-    /// The survey of these fields and rules, or Malformed exactly where they are not well formed. They are
-    /// where they are few enough, names differ, and each field and rule keeps its limits. Memory may also
-    /// be refused.
+    /// The survey of these fields and rules, or Malformed where they are not well formed. They are well
+    /// formed where there are at most 64 fields and 500 rules, names differ, and each field and rule keeps
+    /// its limits. Memory may also be refused.
     pub fn new(alloc: Global, fields: Vec<Field>, rules: Vec<Rule>) -> Result<Survey, SurveyFault>
         ensures ok { IfOk result (λ survey. (survey ≡ survey_of fields.items rules.items) × IsWellFormed survey) }
         ensures malformed { result ≡ Err SurveyFault.Malformed → ¬ IsWellFormed (survey_of fields.items rules.items) }
@@ -51,8 +51,8 @@ impl Survey {
         Ok(Survey::of(alloc, fields, rules)?)
     }
 
-    /// The survey of these fields and rules, which the caller knows to be well formed. They are not looked
-    /// at again.
+    /// The survey of these fields and rules, which the caller knows to be well formed, as the reader of a
+    /// rule text does. They are not tested again.
     pub fn of(alloc: Global, fields: Vec<Field>, rules: Vec<Rule>) -> Result<Survey, OutOfMemory>
         requires { IsWellFormed (survey_of fields.items rules.items) }
         ensures { IfOk result (λ survey. survey ≡ survey_of fields.items rules.items) }

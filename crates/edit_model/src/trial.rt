@@ -1,6 +1,7 @@
 //! Whether a rule holds at a record, in exact fractions of 128 bits. In contracts, `rule_at`, `test_at`
-//! and `trial_sum` have what is computed at a record, None for an overflow. `AgreesOnRule` says that a
-//! point has the record's values where the rule's tests read them.
+//! and `trial_sum` have what is computed at a record, None for an overflow. `answered` is the fraction that
+//! a call answers, None for an overflow. `AgreesOnRule` says that a point has the record's values where the
+//! rule's tests read them.
 ghost use Rattle.std.specs.Prelude.{◌≡◌, ◌<◌, All, IfOk, OnErr, length, pos};
 ghost use Rattle.fraction128.specs.Formulas.{answered, ratio_of};
 ghost use Rattle.edit_model.specs.Points.{Point, compares, has_code, rule_holds};
@@ -49,8 +50,8 @@ fn is_true(test: &Test, row: &Row) -> Result<bool, Overflow>
     }
 }
 
-// The sum of the test at the record: its constant, and then factor * value term by term. Overflow where
-// one of the products or sums overflows.
+// The sum of the test at the record: its constant, and then factor * value term by term. Overflow exactly
+// where one of the products or sums overflows.
 fn sum_of(linear: &Linear, row: &Row) -> Result<Fraction, Overflow>
     requires { All (λ t. (t.field < length row.now) × IsNumberValue (value_of row.now t.field)) linear.now.terms }
     ensures { answered result ≡ trial_sum linear.now row.now }
@@ -69,8 +70,8 @@ fn constant_of(linear: &Linear) -> Fraction
     Fraction::whole(i128::from(linear.constant))
 }
 
-// The sum with the factor times the record's value; a value that is no number adds nothing. Overflow where
-// the product or the new sum does.
+// The sum so far, and the term's factor times the record's value at its field. A value that is no number
+// adds nothing. Overflow exactly where the product or the new sum overflows.
 #[inline(always)]
 fn with_term(sum: Fraction, term: &Term, row: &Row) -> Result<Fraction, Overflow>
     requires { term.now.field < length row.now }
@@ -82,7 +83,7 @@ fn with_term(sum: Fraction, term: &Term, row: &Row) -> Result<Fraction, Overflow
     }
 }
 
-// Whether the number, the numerator of a sum, compares with 0 as the test asks. It has the sum's sign.
+// Whether a sum compares with 0 as the test asks. `number` is the sum's numerator, which has its sign.
 fn compares_with_zero(compare: Compare, number: i128) -> bool
     ensures { result ≡ compares compare number }
 {

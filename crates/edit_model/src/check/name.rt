@@ -20,7 +20,7 @@ fn is_ascii_digit(byte: u8) -> bool
     matches!(byte, b'0'..=b'9')
 }
 
-// Whether the bytes are letters, digits and `_`.
+// Whether each byte is a letter, a digit or `_`, as behind the first letter of a name. True of no bytes.
 fn are_name_bytes(bytes: &[u8]) -> bool
     ensures { result ≡ list_all (λ b. is_letter b || (is_digit b || (b == 95))) bytes.now }
 {
@@ -53,7 +53,7 @@ fn is_reserved(bytes: &[u8]) -> bool
 }
 
 /// Whether a field may have the name: a letter with letters, digits and `_` behind it, and none of the
-/// words of the rules. No memory.
+/// words of the rule language. No memory.
 pub fn is_field_name(name: &Name) -> bool
     ensures { IsTrue result ↔ IsName name.now }
 {
@@ -61,7 +61,7 @@ pub fn is_field_name(name: &Name) -> bool
     has_name_form(bytes) && !is_reserved(bytes)
 }
 
-// Whether each byte may stand in a code: letters, digits, `_`, `-` and `.`.
+// Whether each byte may stand in a code: letters, digits, `_`, `-` and `.`. True of no bytes.
 fn are_code_bytes(bytes: &[u8]) -> bool
     ensures { result ≡ has_code_form bytes.now }
 {
@@ -70,8 +70,8 @@ fn are_code_bytes(bytes: &[u8]) -> bool
     })
 }
 
-/// Whether the name may be a code. That it has 1 to 32 bytes is in its type. The words of the rules may be
-/// codes.
+/// Whether the name may be a code: each byte is a letter, a digit, `_`, `-` or `.`. That it has 1 to 32
+/// bytes is in its type. The words of the rule language may be codes, too.
 pub(crate) fn is_code_name(name: &Name) -> bool
     ensures { IsTrue result ↔ (IsTrue (has_code_form name.now) × (1 ≤ length name.now) × (length name.now ≤ 32)) }
 {
