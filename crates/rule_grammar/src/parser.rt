@@ -1,4 +1,6 @@
-//! Reads a statement off the tokens of a line, one production of the grammar after another.
+//! Reads a statement off the tokens of a line, one production of the grammar after another. A production is
+//! a part of a statement that the grammar names, such as a sum, a test or a list. A call `read_..` reads a
+//! production, and a call `take_..` takes a single token.
 mod conditions;
 mod declarations;
 mod fault;

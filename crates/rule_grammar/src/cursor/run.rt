@@ -1,4 +1,5 @@
-//! How long the runs of bytes of one kind are that a text begins with.
+//! How long the runs of bytes of one kind are that a text begins with. All lengths are in bytes, and 0 where
+//! the first byte is of another kind, or the text is empty.
 ghost use Rattle.std.specs.Prelude.{◌≡◌, ◌≤◌, length};
 ghost use Rattle.std.specs.List.{prefix_len};
 ghost use Rattle.edit_model.specs.Surveys.{is_digit};

@@ -64,7 +64,7 @@ fn word_token(word: &[u8]) -> Token
     }
 }
 
-// The token of the code that has these bytes.
+// The token of the code that has these bytes, 1 to 32 of them. Inside braces no word is a keyword.
 fn code_token(code: &[u8]) -> Token
     requires { (1 ≤ length code.now) × (length code.now ≤ 32) }
     ensures { result ≡ Token.Code code.now }

@@ -17,7 +17,7 @@ use crate::token::Keyword;
 use foundation::Sequence;
 use std::alloc::Global;
 
-/// Reads `and` and the test behind it.
+/// Reads `and` and the test behind it, which is one more condition of a rule.
 fn and_test(alloc: Global, cursor: &mut Cursor) -> Result<TestText, Fault>
     ensures { Parses (and_test_at cursor.old) cursor.new result }
 {

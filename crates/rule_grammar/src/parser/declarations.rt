@@ -42,7 +42,7 @@ pub(crate) fn number(cursor: &mut Cursor) -> Option<Declaration>
 }
 
 /// Reads the declaration of a categorical field, from behind the word `code`: its name, its weight, if one
-/// is written, and its list of codes.
+/// is written, and its list of codes. `Unreadable` where the tokens don't begin with one.
 pub(crate) fn code(alloc: Global, cursor: &mut Cursor) -> Result<Declaration, Fault>
     ensures { Parses (code_field_at cursor.old) cursor.new result }
 {

@@ -16,7 +16,8 @@ use crate::token::Keyword;
 use edit_model::Name;
 use std::alloc::Global;
 
-/// Reads the comparison and the right sum of a test whose `left` sum is taken already.
+/// Reads the comparison and the right sum of a test whose `left` sum is taken already. `Unreadable` where
+/// one of them is not there.
 fn comparison_from(alloc: Global, cursor: &mut Cursor, left: SumText) -> Result<TestText, Fault>
     ensures { Parses (compared_at left cursor.old) cursor.new result }
 {
@@ -65,7 +66,7 @@ fn test_from(alloc: Global, cursor: &mut Cursor, field: Name) -> Result<TestText
     sums(alloc, cursor, field)
 }
 
-/// Reads a test, of codes or of two sums.
+/// Reads a test, of codes or of two sums. `Unreadable` where the tokens begin with neither.
 pub(crate) fn test(alloc: Global, cursor: &mut Cursor) -> Result<TestText, Fault>
     ensures { Parses (test_at cursor.old) cursor.new result }
 {

@@ -38,8 +38,8 @@ fn comma_codes(alloc: Global, cursor: &mut Cursor) -> Result<Sequence<Name>, Fau
     Ok(Sequence::from_vec(codes))
 }
 
-/// Reads the further codes of a list and the brace that closes it. The first code is taken already, with
-/// the brace before it.
+/// Reads the further codes of a list and the brace that closes it. `first`, the first code, is taken
+/// already, with the brace before it. `Unreadable` where no such brace follows.
 fn list_from(alloc: Global, cursor: &mut Cursor, first: Name) -> Result<CodeList, Fault>
     ensures { Parses (codes_at first cursor.old) cursor.new result }
 {
@@ -50,7 +50,7 @@ fn list_from(alloc: Global, cursor: &mut Cursor, first: Name) -> Result<CodeList
     }
 }
 
-/// Reads a list of at least one code, with its braces.
+/// Reads a list of at least one code, with its braces. `Unreadable` where the tokens don't begin with one.
 fn list(alloc: Global, cursor: &mut Cursor) -> Result<CodeList, Fault>
     ensures { Parses (list_at cursor.old) cursor.new result }
 {
@@ -61,7 +61,7 @@ fn list(alloc: Global, cursor: &mut Cursor) -> Result<CodeList, Fault>
     list_from(alloc, cursor, first)
 }
 
-/// Reads `in` and the list behind it.
+/// Reads `in` and the list of codes behind it. `Unreadable` where the tokens don't begin so.
 pub(crate) fn in_list(alloc: Global, cursor: &mut Cursor) -> Result<CodeList, Fault>
     ensures { Parses (in_list_at cursor.old) cursor.new result }
 {

@@ -13,7 +13,7 @@ use crate::cursor::Cursor;
 use crate::token::{Keyword, Numeral, Sign, Token};
 use edit_model::{Compare, Name};
 
-/// Whether no token is left on the line.
+/// Whether no token is left on the line: the text has ended, or has blanks alone.
 pub(crate) fn is_over(cursor: &Cursor) -> bool
     ensures { result ≡ ends cursor.now }
 {

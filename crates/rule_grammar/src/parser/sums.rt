@@ -69,8 +69,8 @@ fn signed_terms(alloc: Global, cursor: &mut Cursor) -> Result<Sequence<SignedTer
     Ok(Sequence::from_vec(terms))
 }
 
-/// Reads the further terms of a sum. Its first term is taken already, and so is the sign before it, if
-/// there is one.
+/// Reads the further terms of a sum, of which there may be none. Its first term is taken already, and so is
+/// the sign before it, if there is one. `Unreadable` where a sign has no term behind it.
 pub(crate) fn sum_from(
     alloc: Global,
     cursor: &mut Cursor,
@@ -83,7 +83,8 @@ pub(crate) fn sum_from(
     Ok(SumText { sign, first, rest })
 }
 
-/// Reads a sum: a term, with a sign in front or not, and further terms with their signs.
+/// Reads a sum: a term, with a sign in front or not, and further terms with their signs. `Unreadable` where
+/// no term comes first, or a sign has none behind it.
 pub(crate) fn sum(alloc: Global, cursor: &mut Cursor) -> Result<SumText, Fault>
     ensures { Parses (sum_at cursor.old) cursor.new result }
 {
