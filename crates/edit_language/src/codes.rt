@@ -71,8 +71,8 @@ pub(crate) fn has_double_code(alloc: Global, test: &TestText) -> Result<bool, Ou
     }
 }
 
-// The set of the code at `place` alone where that is `wanted`, and else of no code. Bit c of a set stands
-// for the code of number c.
+// The set of the one code at `place`, from 0, where it is `wanted`, and else the empty set. Bit c of a set
+// stands for the code of number c.
 fn bit_if(wanted: bool, place: usize) -> u64
     requires { place < 64 }
     ensures { result ≡ (if wanted then 2 ^ place else 0) }
@@ -93,7 +93,7 @@ pub(crate) fn code_set(codes: &[Name], list: &CodeList) -> u64
     set
 }
 
-/// All codes of a list, in order: the first, and then the rest.
+/// All codes of a list, in order, for the field that the list declares: the first, and then the rest.
 pub(crate) fn listed_codes(list: CodeList) -> Result<Vec<Name>, OutOfMemory>
     ensures { IfOk result (λ codes. codes.items ≡ listed list) }
 {

@@ -52,7 +52,8 @@ impl Draft {
         }
     }
 
-    // Adds the field of a declaration. The declaration has no fault after the lines before it.
+    // Adds the field that a declaration declares, behind the others. The caller has found no fault in the
+    // declaration. Refused for want of memory alone.
     fn declare(&mut self, declaration: Declaration) -> Result<(), OutOfMemory>
         requires names { GivesNames (Statement.Declaration declaration) }
         requires faultless { declaration_fault self.old declaration ≡ None }
@@ -62,7 +63,8 @@ impl Draft {
         Ok(())
     }
 
-    // Adds the edit of a rule. The rule has no fault after the lines before it.
+    // Adds the edit that a rule's text means, behind the others. The caller has found no fault in the rule.
+    // Refused for want of memory alone.
     fn set(&mut self, alloc: Global, rule: &RuleText) -> Result<(), OutOfMemory>
         requires { rule_fault self.old rule.now ≡ None }
         ensures { OnOk result (self.new ≡ extended self.old (Statement.Rule rule.now)) }
@@ -72,8 +74,8 @@ impl Draft {
         Ok(())
     }
 
-    // Adds what a statement declares: a field, or an edit. The statement has no fault after the lines
-    // before it.
+    // Adds what a statement says: a field, or an edit. The caller has found no fault in the statement, by
+    // the fields and rules of the lines before it. Refused for want of memory alone.
     fn extend(&mut self, alloc: Global, statement: Statement) -> Result<(), OutOfMemory>
         requires names { GivesNames statement }
         requires faultless { fault_of self.old statement ≡ None }
@@ -85,8 +87,8 @@ impl Draft {
         }
     }
 
-    // Adds what the statement on line `number` declares. Where it has a fault, `At` tells that line and
-    // the least kind, and the draft is as before.
+    // Adds what the statement on line `number`, from 1, says. Where it has a fault, `At` tells that line
+    // and the least kind of fault, and the draft is as before.
     fn take_statement(
         &mut self,
         alloc: Global,
@@ -109,8 +111,8 @@ impl Draft {
         }
     }
 
-    /// Takes what the line of this `number` says: nothing where it has blanks and a comment alone, and
-    /// else a statement. `At` where it has a fault: a bad byte comes first, a line that is no statement
+    /// Adds what the line of this `number`, from 1, says: nothing where it has blanks and a comment alone,
+    /// and else a statement. `At` where it has a fault: a bad byte comes first, a line that is no statement
     /// next, and then the faults of the statement.
     pub(crate) fn take_line(
         &mut self,
@@ -138,9 +140,9 @@ impl Draft {
         }
     }
 
-    /// Takes what stands behind the last line feed. `earlier` lines stand before it. Where `line` is empty
-    /// nothing is taken, and `earlier + 1`, which might be 2^32, is not computed. The bound holds since
-    /// each earlier line took at least one byte of a text of fewer than 2^32.
+    /// Adds what the text behind the last line feed says. `earlier` lines stand before it. An empty `line`
+    /// adds nothing, and `earlier + 1`, which might be 2^32, is not computed. The bound holds since each
+    /// earlier line took at least one byte of a text of fewer than 2^32.
     pub(crate) fn take_last_line(
         &mut self,
         alloc: Global,

@@ -36,7 +36,7 @@ const MOST_WEIGHT: u64 = 1000;
 /// The largest scale of a numerical field.
 const MOST_SCALE: u64 = 1_000_000_000_000;
 
-// Whether one of the fields has the name.
+// Whether one of the fields has the name, so that it can't be declared again.
 fn is_declared(fields: &[Field], name: &Name) -> bool
     ensures { result ≡ list_any (λ f. bytes_eq f.name name.now) fields.now }
 {
@@ -173,7 +173,7 @@ fn is_sums(test: &TestText) -> bool
     matches!(test, TestText::Sums { .. })
 }
 
-// Whether one of these tests or more is a number test.
+// Whether at least one of these tests is a number test.
 fn are_sums(tests: &[TestText]) -> bool
     ensures { result ≡ list_any is_sums tests.now }
 {
@@ -193,7 +193,7 @@ fn is_equation(test: &TestText) -> bool
     }
 }
 
-// Whether one of these tests or more compares with `=`.
+// Whether at least one of these tests is a number test that compares with `=`.
 fn are_equations(tests: &[TestText]) -> bool
     ensures { result ≡ list_any is_equation tests.now }
 {
@@ -256,7 +256,8 @@ fn declaration_fault(
     }
 }
 
-/// The least kind of fault that the statement has after these fields and rules, or None where it has none.
+/// The least kind of fault that the statement has after these fields and rules, which the lines before it
+/// declared. None where it has none.
 pub(crate) fn fault_of(
     alloc: Global,
     fields: &[Field],

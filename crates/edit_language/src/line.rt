@@ -58,7 +58,8 @@ fn before_comment(line: &[u8]) -> &[u8]
     }
 }
 
-/// What of a line is read: it is without the carriage return at its end, and without its comment.
+/// What of a line is read as a statement: the line without the carriage return at its end, and without its
+/// comment.
 pub(crate) fn read_part(line: &[u8]) -> &[u8]
     ensures { result.now ≡ read_part line.now }
 {
@@ -72,8 +73,8 @@ fn is_bad_byte(byte: u8) -> bool
     !((32 <= byte && byte <= 126) || byte == b'\t')
 }
 
-/// Whether some byte of the text is neither a printable ASCII byte nor a tab. Such a byte is a fault, but
-/// in a comment.
+/// Whether some byte of the text is neither a printable ASCII byte nor a tab. Such a byte is a fault outside
+/// of comments, so the text is one from which the comment was cut off.
 pub(crate) fn has_bad_byte(text: &[u8]) -> bool
     ensures { result ≡ list_any is_bad_byte text.now }
 {

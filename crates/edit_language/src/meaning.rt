@@ -16,8 +16,8 @@ use foundation::{OutOfMemory, Sequence};
 use rule_grammar::{Declaration, Numeral, RuleText, TestText};
 use std::alloc::Global;
 
-// The test that a test's text means over these fields. No number of it is out of its limits. A name that
-// no field has counts as the first field; the caller has refused such a test.
+// The test that a test's text means over these fields. The caller has found no number of it out of its
+// limits. A name that no field has counts as the first field, but the caller has refused such a test.
 fn test_of(alloc: Global, fields: &[Field], test: &TestText) -> Result<Test, OutOfMemory>
     requires few { length fields.now ≤ 64 }
     requires fields { All IsField fields.now }
@@ -46,7 +46,8 @@ fn test_of(alloc: Global, fields: &[Field], test: &TestText) -> Result<Test, Out
     }
 }
 
-// The tests that these texts mean over the fields, in order. No number of them is out of its limits.
+// The tests that these texts mean over the fields, in order, as the conditions of a rule. The caller has
+// found no number of them out of its limits.
 fn tests_of(alloc: Global, fields: &[Field], tests: &[TestText]) -> Result<Vec<Test>, OutOfMemory>
     requires few { length fields.now ≤ 64 }
     requires fields { All IsField fields.now }
@@ -60,7 +61,8 @@ fn tests_of(alloc: Global, fields: &[Field], tests: &[TestText]) -> Result<Vec<T
     Ok(made)
 }
 
-/// The edit that a rule's text means over these fields. No number of it is out of its limits.
+/// The edit that a rule's text means over these fields. The caller has found no number of it out of its
+/// limits.
 pub(crate) fn rule_of(alloc: Global, fields: &[Field], rule: &RuleText) -> Result<Rule, OutOfMemory>
     requires few { length fields.now ≤ 64 }
     requires fields { All IsField fields.now }
@@ -74,7 +76,8 @@ pub(crate) fn rule_of(alloc: Global, fields: &[Field], rule: &RuleText) -> Resul
     })
 }
 
-// The weight that is written, or 1 where none is. It is at most 1000, so that it fits 32 bits.
+// The weight that is written, or 1 where none is. The caller has found it to be at most 1000, so that it
+// fits 32 bits.
 fn weight_in(weight: Option<Numeral>) -> u32
     requires { is_outside 1000 weight ≡ false }
     ensures { result ≡ number_or_one weight }
@@ -82,7 +85,8 @@ fn weight_in(weight: Option<Numeral>) -> u32
     number_or_one(weight) as u32
 }
 
-/// The field that a declaration declares. A weight or a scale that is not written is 1.
+/// The field that a declaration declares. A weight or a scale that is not written is 1. The caller has found
+/// the weight to be at most 1000.
 pub(crate) fn field_of(declaration: Declaration) -> Result<Field, OutOfMemory>
     requires { is_outside 1000 (weight_of declaration) ≡ false }
     ensures { IfOk result (λ field. field ≡ field_of declaration) }

@@ -26,7 +26,7 @@ pub(crate) fn field_named<'a>(fields: &'a [Field], name: &Name) -> Option<&'a Fi
         .find(|field| field.name.as_bytes() == name.as_bytes())
 }
 
-// Whether a numerical field has the name. It is false of a name that no field has.
+// Whether the name is that of a numerical field. It is false of a name that no field has.
 fn is_number_name(fields: &[Field], name: &Name) -> bool
     ensures { result ≡ is_number_name fields.now name.now }
 {
@@ -36,7 +36,7 @@ fn is_number_name(fields: &[Field], name: &Name) -> bool
     }
 }
 
-// Whether a categorical field has the name. It is false of a name that no field has.
+// Whether the name is that of a categorical field. It is false of a name that no field has.
 fn is_code_name(fields: &[Field], name: &Name) -> bool
     ensures { result ≡ is_code_name fields.now name.now }
 {
@@ -46,7 +46,7 @@ fn is_code_name(fields: &[Field], name: &Name) -> bool
     }
 }
 
-// Whether the term is a constant, or names a numerical field.
+// Whether the term is a constant, or names a numerical field. Any other name in a sum is a fault.
 fn is_known_term(fields: &[Field], term: &TermText) -> bool
     ensures { result ≡ is_known_term fields.now term.now }
 {
@@ -134,7 +134,8 @@ fn has_codes_of(codes: &[Name], list: &CodeList) -> bool
     is_code_of(codes, &list.first) && are_codes_of(codes, list.rest.as_slice())
 }
 
-/// Whether each code of a code test is a code of its field. A number test lists none, so it is true of one.
+/// Whether each code in the list of a code test is a code of the field that is tested. A number test lists
+/// none, so it is true of one.
 pub(crate) fn has_known_codes(fields: &[Field], test: &TestText) -> bool
     ensures { result ≡ has_known_codes fields.now test.now }
 {

@@ -97,7 +97,7 @@ fn part_in(name: Option<&Name>, term: &TermText) -> u64
     }
 }
 
-// The number with its sign.
+// The number as the sign before it says: itself, or its negative.
 fn signed_number(sign: Sign, number: u64) -> i128
     ensures value { result ≡ signed sign number }
     ensures size { unsigned_abs result ≡ number }
@@ -108,8 +108,8 @@ fn signed_number(sign: Sign, number: u64) -> i128
     }
 }
 
-// What the terms with their signs add to the factor of the field with this name, or to the constant where
-// no name is given.
+// What these terms, with their signs, add to the factor of the field with this name, or to the constant
+// where no name is given. Each adds at most 10^15.
 fn parts_added(name: Option<&Name>, terms: &[SignedTerm]) -> i128
     requires { list_any (λ t. is_large_term t.term) terms.now ≡ false }
     ensures value { result ≡ parts_added (option_map (λ n. n.now) name.entry) terms.now }
@@ -165,7 +165,8 @@ fn moved_constant(left: &SumText, right: &SumText) -> i128
     parts_moved(None, left, right)
 }
 
-// Whether the factor of the field with this `name` is above `MOST_FACTOR` once both sides are added up.
+// Whether the factor of the field with this `name` is above `MOST_FACTOR`, in absolute value, once both sides
+// are added up.
 fn is_large_factor(left: &SumText, right: &SumText, name: &Name) -> bool
     requires left { is_large_sum left.now ≡ false }
     requires right { is_large_sum right.now ≡ false }
@@ -174,7 +175,8 @@ fn is_large_factor(left: &SumText, right: &SumText, name: &Name) -> bool
     u128::from(MOST_FACTOR) < moved_factor(left, right, name).unsigned_abs()
 }
 
-// Whether the factor of any of these fields is above `MOST_FACTOR` once both sides are added up.
+// Whether the factor of any of these fields is above `MOST_FACTOR`, in absolute value, once both sides are
+// added up.
 fn are_large_factors(fields: &[Field], left: &SumText, right: &SumText) -> bool
     requires left { is_large_sum left.now ≡ false }
     requires right { is_large_sum right.now ≡ false }
@@ -188,7 +190,7 @@ fn are_large_factors(fields: &[Field], left: &SumText, right: &SumText) -> bool
     false
 }
 
-// Whether the constant is above `MOST_CONSTANT` once both sides are added up.
+// Whether the constant is above `MOST_CONSTANT`, in absolute value, once both sides are added up.
 fn is_large_constant(left: &SumText, right: &SumText) -> bool
     requires left { is_large_sum left.now ≡ false }
     requires right { is_large_sum right.now ≡ false }
@@ -209,7 +211,8 @@ pub(crate) fn are_large_sums(fields: &[Field], left: &SumText, right: &SumText) 
         || is_large_constant(left, right)
 }
 
-// Adds the term of a field behind the others, unless its factor is 0: the field then drops out of the test.
+// Adds the term of the field of number `field`, from 0, behind the others. It adds none where the factor is
+// 0: the field then drops out of the test.
 fn push_term(terms: &mut Vec<Term>, field: u32, factor: i64) -> Result<(), OutOfMemory>
     ensures { OnOk result (terms.new.items ≡ with_term terms.old.items field factor) }
 {
@@ -219,8 +222,8 @@ fn push_term(terms: &mut Vec<Term>, field: u32, factor: i64) -> Result<(), OutOf
     Ok(())
 }
 
-// The factor of the field with this name, once both sides are added up. It is within its limit, so that it
-// fits 64 bits.
+// The factor of the field with this name, once both sides are added up. The caller has found it to be within
+// its limit, so that it fits 64 bits.
 fn small_factor(left: &SumText, right: &SumText, name: &Name) -> i64
     requires left { is_large_sum left.now ≡ false }
     requires right { is_large_sum right.now ≡ false }
@@ -230,7 +233,8 @@ fn small_factor(left: &SumText, right: &SumText, name: &Name) -> i64
     moved_factor(left, right, name) as i64
 }
 
-/// The constant, once both sides are added up. It is within its limit, so that it fits 64 bits.
+/// The constant, once both sides are added up. The caller has found it to be within its limit, so that it
+/// fits 64 bits.
 pub(crate) fn small_constant(left: &SumText, right: &SumText) -> i64
     requires left { is_large_sum left.now ≡ false }
     requires right { is_large_sum right.now ≡ false }

@@ -6,7 +6,7 @@ ghost use Rattle.edit_language.specs.Printing.{braced, codes_of_set};
 use edit_model::Name;
 use foundation::OutOfMemory;
 
-// Appends all codes of the list, as `{x, y}`.
+// Appends all codes of the list, as `{x, y}`, for the declaration of a field.
 pub(super) fn write_all(text: &mut Vec<u8>, list: &[Name]) -> Result<(), OutOfMemory>
     ensures { OnOk result (text.new.items ≡ text.old.items ++ braced list.now) }
 {
@@ -18,8 +18,8 @@ pub(super) fn write_all(text: &mut Vec<u8>, list: &[Name]) -> Result<(), OutOfMe
     Ok(())
 }
 
-// Appends those codes of the list that are in the set, as `{x, y}`. Bit c of the set stands for the code
-// of number c.
+// Appends those codes of a field's list that are in the set, as `{x, y}`, for a test. Bit c of the set stands
+// for the code of number c.
 pub(super) fn write_set(text: &mut Vec<u8>, list: &[Name], set: u64) -> Result<(), OutOfMemory>
     ensures { OnOk result (text.new.items ≡ text.old.items ++ braced (codes_of_set set 0 list.now)) }
 {

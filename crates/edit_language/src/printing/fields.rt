@@ -19,7 +19,7 @@ pub(super) fn write_field(text: &mut Vec<u8>, field: &Field) -> Result<(), OutOf
     write_kind(text, &field.kind)
 }
 
-// The word that begins the declaration of a field of this kind.
+// The word that begins the declaration of a field of this kind, with the blank behind it.
 fn kind_word(kind: &Kind) -> &'static [u8]
     ensures { result.now ≡ kind_word kind.now }
 {
@@ -29,8 +29,8 @@ fn kind_word(kind: &Kind) -> &'static [u8]
     }
 }
 
-// Appends what stands behind a field's weight: the scale of a numerical field, or the codes of a
-// categorical one.
+// Appends what stands behind a field's weight: ` scale 1` or the like of a numerical field, and ` in {x, y}`
+// or the like of a categorical one.
 fn write_kind(text: &mut Vec<u8>, kind: &Kind) -> Result<(), OutOfMemory>
     ensures { OnOk result (text.new.items ≡ text.old.items ++ kind_text kind.now) }
 {

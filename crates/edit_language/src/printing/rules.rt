@@ -100,8 +100,8 @@ fn write_test(text: &mut Vec<u8>, fields: &[Field], test: &Test) -> Result<(), O
     }
 }
 
-// The codes of the field with this number. There are none where it is numerical, or where no field has the
-// number.
+// The codes of the field with this number, from 0. There are none where it is numerical, or where no field
+// has the number.
 fn codes_at(fields: &[Field], number: u32) -> &[Name]
     ensures { result.now ≡ field_codes (slice_get fields.now number) }
 {

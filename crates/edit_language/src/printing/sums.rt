@@ -23,9 +23,9 @@ pub(super) fn write_linear(
     Ok(())
 }
 
-/// Appends a term of a sum: a sign, the `factor` without it unless that is 1, and the name of the field of
-/// number `field`. The sign of the `first` term is a minus or nothing; that of a later one joins it to the
-/// term before. Where memory is refused, the text is as before.
+/// Appends a term of a sum, as `2 A` or ` - B`: a sign, the size of the `factor` unless that is 1, and the
+/// name of the field of number `field`, from 0. The sign of the `first` term is a minus or nothing, and that
+/// of a later one is ` + ` or ` - `. Where memory is refused, the text is as before.
 pub fn write_term(
     text: &mut Vec<u8>,
     first: bool,
@@ -84,7 +84,7 @@ pub(super) fn write_number(text: &mut Vec<u8>, number: u128) -> Result<(), OutOf
     Ok(())
 }
 
-// The name of the field with this number, or nothing where no field has it.
+// The name of the field with this number, from 0, or nothing where no field has it.
 pub(super) fn name_at(fields: &[Field], number: u32) -> &[u8]
     ensures { result.now ≡ name_at fields.now number }
 {
@@ -175,7 +175,8 @@ fn append_term(
     write_product(text, factor.unsigned_abs(), name_at(fields, field))
 }
 
-// Appends the factor of a term without its sign, and the name of its field; the factor 1 is not written.
+// Appends the factor of a term without its sign, and the name of its field. The factor 1 is not written.
+// Where memory is refused, some of it may stand behind what stood before.
 fn write_product(text: &mut Vec<u8>, factor: u128, name: &[u8]) -> Result<(), OutOfMemory>
     ensures written { OnOk result (text.new.items ≡ text.old.items ++ product_text factor name.now) }
     ensures begins { StartsWith text.new.items text.old.items }
@@ -188,8 +189,8 @@ fn write_product(text: &mut Vec<u8>, factor: u128, name: &[u8]) -> Result<(), Ou
     Ok(())
 }
 
-// What stands before the number of a term: its sign where it is `first`, and else what joins it to the
-// terms before.
+// What stands before a term whose factor is `number`: its sign where the term is the `first`, and else what
+// joins it to the terms before.
 fn lead_text(first: bool, number: i128) -> &'static [u8]
     ensures { result.now ≡ lead_text first number }
 {
@@ -200,7 +201,7 @@ fn lead_text(first: bool, number: i128) -> &'static [u8]
     }
 }
 
-// The sign in front of a sum: a minus, or nothing.
+// The sign in front of a sum that begins with this factor: a minus, or nothing.
 fn sign_text(number: i128) -> &'static [u8]
     ensures { result.now ≡ sign_text number }
 {
