@@ -17,9 +17,9 @@ use std::alloc::Global;
 /// The most columns that a header has.
 pub(crate) const MOST_COLUMNS: usize = 256;
 
-/// The column of each field, in declared order. `header` has at most 256 texts. The fault is that of the
-/// first field that stands in no column (`NoColumn`) or in several (`DoubleColumn`). Else memory was
-/// refused.
+/// The column, from 0, of each field, in declared order. `header` has at most 256 texts. The fault is that
+/// of the first field that stands in no column (`NoColumn`) or in several (`DoubleColumn`). Memory may also
+/// be refused.
 pub(crate) fn find_columns(
     alloc: Global,
     fields: &[Field],
@@ -38,8 +38,8 @@ pub(crate) fn find_columns(
     Ok(columns)
 }
 
-/// The one column in which the field stands, of the number `field` and the name `name`. `NoColumn` where
-/// it stands in none, `DoubleColumn` where it stands in several.
+/// The one column, from 0, in which the field stands. Its number, from 0, is `field`, and its name `name`.
+/// `NoColumn` where it stands in none, `DoubleColumn` where it stands in several.
 fn find_column(field: u32, name: &[u8], header: &Texts) -> Result<u32, SheetFault>
     requires { length header.now ≤ 256 }
     ensures column { IfOk result (λ column. columns_of name.now header.now ≡ column ∷ []) }
@@ -54,9 +54,9 @@ fn find_column(field: u32, name: &[u8], header: &Texts) -> Result<u32, SheetFaul
     Ok(column as u32)
 }
 
-/// The one column whose text, without blanks at its ends, is `name`. None where there is none, or several.
-/// As `find_column`, for names that are no field's, such as a panel's key. In the contract, `IsOneColumn`
-/// says so. No memory.
+/// The one column, from 0, whose text, without blanks at its ends, is `name`. None where there is none, or
+/// several. It is as `find_column`, but for names that are no field's, such as a panel's key. In the
+/// contract, `IsOneColumn` says so. No memory.
 pub(crate) fn one_column(name: &[u8], header: &Texts) -> Option<u32>
     requires { length header.now ≤ 256 }
     ensures { IsOneColumn name.now header.now result }

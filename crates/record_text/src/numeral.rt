@@ -71,8 +71,8 @@ fn without_sign(text: &[u8]) -> &[u8]
     }
 }
 
-/// The fraction `ratio` in lowest terms, negative where `minus` says so. Minus zero is zero. `ratio` is
-/// that of a numeral, so both numbers are small enough.
+/// The fraction `ratio` in lowest terms, negative where `minus` says so. Minus zero is zero. Both numbers of
+/// `ratio` are from a numeral, so they are small enough for a fraction.
 fn signed_fraction(minus: bool, ratio: Ratio) -> Fraction
     requires numerator { ratio.numerator < 10 ^ 21 }
     requires denominator { (1 ≤ ratio.denominator) × (ratio.denominator ≤ 1000000) }
@@ -88,7 +88,7 @@ fn signed_fraction(minus: bool, ratio: Ratio) -> Fraction
 }
 
 /// What a text without its sign spells: digits, digits with a point before, among or behind them, or a
-/// quotient. None where it is none of these, or has too many digits.
+/// quotient. None where it is none of these, or has too many digits or too great a denominator.
 fn unsigned_ratio(text: &[u8]) -> Option<Ratio>
     ensures some { IfSome result (λ ratio. IsUnsigned text.now ratio.numerator ratio.denominator) }
     ensures none { IfNone result ((numerator denominator : ℕ) → ¬ IsUnsigned text.now numerator denominator) }
@@ -105,8 +105,8 @@ fn unsigned_ratio(text: &[u8]) -> Option<Ratio>
     }
 }
 
-/// The place of the first point or stroke, which says of what form the numeral is. None where there is
-/// neither.
+/// The place, from 0, of the first point or stroke, which says of what form the numeral is. None where
+/// there is neither, as in a whole number.
 fn mark_place(text: &[u8]) -> Option<usize>
     ensures { result ≡ position is_mark text.now }
 {

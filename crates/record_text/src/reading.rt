@@ -46,7 +46,8 @@ pub fn read_records(alloc: Global, survey: &Survey, bytes: &[u8]) -> Result<Shee
 }
 
 /// The sheet that csv's reader of these bytes gives. The fault is the first in the order of
-/// [`SheetFault`].
+/// [`SheetFault`]. That there is no other one follows from these two clauses, so `read_records` shows it
+/// apart.
 fn read_sheet(alloc: Global, survey: &Survey, bytes: &[u8]) -> Result<Sheet, SheetFault>
     ensures sheet { IfOk result (λ sheet. IsSheet survey.now.fields bytes.now sheet) }
     ensures fault { IfErr result (λ e. e ≢ SheetFault.OutOfMemory → IsSheetFault survey.now.fields bytes.now e) }
@@ -82,9 +83,9 @@ fn sheet_of(
     Ok(Sheet::from_parts(header, columns, row_texts, rows))
 }
 
-/// The texts and the values of all further records. `RowLength` at the first that has not `width` texts,
-/// as the header has; `TooManyRows` where more than 200,000 follow. `columns` has the column of each
-/// field. `csv_record` is overwritten.
+/// The texts and the values of all further records, from where the reader stands. `RowLength` at the first
+/// that has not `width` texts, as the header has; `TooManyRows` where more than 200,000 follow. `columns`
+/// has the column, from 0, of each field. `csv_record` is overwritten.
 fn read_rows(
     alloc: Global,
     survey: &Survey,

@@ -15,9 +15,10 @@ use crate::texts::Texts;
 use csv::{ByteRecord, Reader};
 use std::alloc::Global;
 
-/// The texts of all further records, from where csv's reader stands to the end. `RowLength` at the first
-/// record that has not `width` texts; `TooManyRows` where more than `most` follow. `csv_record` is
-/// overwritten: it is room that the caller lends.
+/// The texts of all further records, from where csv's reader stands to the end; there may be none.
+/// `RowLength` at the first record that has not `width` texts: it has the record's number, from 0.
+/// `TooManyRows` where more than `most` follow. `csv_record` is overwritten: it is room that the caller
+/// lends.
 pub(crate) fn read_row_texts(
     alloc: Global,
     most: u32,

@@ -63,7 +63,8 @@ pub fn read_table(alloc: Global, bytes: &[u8]) -> Result<Table, TableFault>
     table_in(alloc, bytes)
 }
 
-// The table that csv's reader of these bytes gives, or the first fault.
+// The table that csv's reader of these bytes gives, or the first fault. That there is no other one follows
+// from these two clauses, so `read_table` shows it apart.
 fn table_in(alloc: Global, bytes: &[u8]) -> Result<Table, TableFault>
     ensures table { IfOk result (λ table. IsTable bytes.now table) }
     ensures fault { IfErr result (λ e. e ≢ TableFault.OutOfMemory → IsTableFault bytes.now e) }

@@ -72,7 +72,8 @@ impl From<TableFault> for SheetFault {
 
     ghost from_gives = { λ fault told. told ≡ sheet_fault_of fault };
 
-    // The fault of the same name of a record file, whose rows are read in the same way.
+    // The fault of a record file that has the same name. The rows of record files are read as those of
+    // tables are, and `?` turns their faults into these.
     fn from(fault: TableFault) -> Self {
         match fault {
             TableFault::NoHeader => SheetFault::NoHeader,

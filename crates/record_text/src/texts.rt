@@ -64,8 +64,9 @@ impl Texts {
 
     /// Adds a text at the end. Where memory is refused, the texts are as before.
     ///
-    /// Where csv has room for a text's bytes but none for its end, it keeps the bytes. So an empty text is
-    /// added first, which makes room for an end, and is truncated off again with all such bytes.
+    /// csv keeps the place where each text ends. Where it has room for a text's bytes but none for that
+    /// place, it keeps the bytes. So an empty text is added first, which makes room for a place. It is taken
+    /// off again, with all bytes that an earlier refusal left.
     pub fn push(&mut self, text: &[u8]) -> Result<(), OutOfMemory>
         ensures added { OnOk result (self.new ≡ self.old ++ text.now ∷ []) }
         ensures refused { OnErr result (self.new ≡ self.old) }

@@ -11,7 +11,7 @@ use std::alloc::Global;
 /// have at least one field each.
 ///
 /// Writing into memory gives no output error, and equally long records give no error of length. So csv
-/// refuses for want of memory alone.
+/// refuses for want of memory alone. Without records the answer has no byte.
 pub fn write_rows(alloc: Global, rows: &[Texts]) -> Result<Vec<u8>, OutOfMemory>
     requires { AreEquallyLong rows.now }
     ensures { IfOk result (λ bytes. bytes.items ≡ records_text rows.now) }
