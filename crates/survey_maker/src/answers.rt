@@ -20,8 +20,8 @@ pub(crate) enum Answer {
 }
 
 impl Answer {
-    // The answer with a slip: it is left out where `is_left_out` says so, and else ten times the number
-    // and 1 more. An answer that has a slip already stays.
+    // A right answer with a slip: it is left out where `is_left_out` says so, and else ten times the
+    // number and 1 more. An answer that has a slip already stays as it is.
     fn slipped(self, is_left_out: bool) -> Answer
         ensures { result ≡ slipped is_left_out self }
     {
@@ -37,7 +37,8 @@ impl Answer {
         }
     }
 
-    /// Appends the text of the answer, which is empty where it is left out.
+    /// Appends the text of the answer, as it stands in the record file. It is empty where the number is left
+    /// out.
     pub(crate) fn write(self, text: &mut Vec<u8>) -> Result<(), OutOfMemory>
         ensures { OnOk result (text.new.items ≡ text.old.items ++ answer_text self) }
     {
@@ -49,9 +50,9 @@ impl Answer {
     }
 }
 
-/// Draws what is given in the place of the `right` answers. In about three of four rows it is these, and
-/// in the others all but one of them, which has a slip. The first draw tells whether there is a slip,
-/// and two more tell at which answer and which one.
+/// Draws what is given in the place of the `right` answers. In about three of four rows these are given. In
+/// the others one of them has a slip. The first draw tells whether there is a slip, and only then two more
+/// tell at which answer it is, and of which kind.
 pub(crate) fn draw_answers(right: [Answer; 12], generator: &mut Generator) -> [Answer; 12]
     ensures answers { result ≡ answers_from right generator.old }
     ensures state { generator.new ≡ state_after (draws_from generator.old) generator.old }

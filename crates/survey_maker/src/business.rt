@@ -1,5 +1,6 @@
 //! A business, as it is drawn: its numbers and codes meet all rules of the survey, until an answer has a
-//! slip. In contracts, `state_after` is the generator's state after so many draws.
+//! slip. In contracts, `state_after` is the generator's state after so many draws. A name that ends in
+//! `_at` is what is drawn from a state on, and one that ends in `_in` is what a business has.
 ghost use Rattle.std.specs.Prelude.{◌≡◌, ◌&&◌, if◌then◌else◌, map};
 ghost use Rattle.survey_maker.specs.Kinds.{may_be_sole};
 ghost use Rattle.survey_maker.specs.Draws.{state_after};
@@ -34,8 +35,8 @@ pub(crate) struct Business {
 }
 
 impl Business {
-    /// Draws a business, by 11 draws. It meets all rules of the survey: its sums are made of the drawn
-    /// parts, and its other numbers and codes stay within the bounds.
+    /// Draws a business, by 11 draws, whose order is part of what is made. It meets all rules of the survey:
+    /// its sums are made of the drawn parts, and its other numbers and codes stay within the bounds.
     pub(crate) fn draw(generator: &mut Generator) -> Business
         ensures drawn { result ≡ business_at generator.old }
         ensures state { generator.new ≡ state_after 11 generator.old }
@@ -74,7 +75,7 @@ impl Business {
         }
     }
 
-    /// The numbers as right answers, in the order of the fields.
+    /// The 12 numbers as right answers, in the order of the fields. A slip may be put among them.
     pub(crate) fn answers(&self) -> [Answer; 12]
         ensures { result ≡ map Right (numbers_in self.now) }
     {
@@ -94,7 +95,7 @@ impl Business {
         ]
     }
 
-    /// The texts of the codes, in the order of the fields.
+    /// The texts of the 4 codes, in the order of the fields, as they stand in the record file.
     pub(crate) fn codes(&self) -> [&'static [u8]; 4]
         ensures { map (λ code. code.now) result ≡ codes_in self.now }
     {

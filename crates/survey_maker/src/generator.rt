@@ -26,7 +26,7 @@ impl Model for Generator {
 }
 
 impl Generator {
-    /// The generator that starts from this number.
+    /// The generator that starts from this number: it is the first state, from which nothing is drawn itself.
     pub(crate) fn new(start: u32) -> Generator
         ensures { result ≡ start }
     {
@@ -35,8 +35,8 @@ impl Generator {
         }
     }
 
-    /// Draws a number below the bound. It comes from the upper 31 bits of the state, since the lower ones
-    /// of such a generator repeat soon.
+    /// Steps to the next state, and draws a number from 0 to below the bound from it. The number comes from
+    /// the upper 31 bits of the state, since the lower ones of such a generator repeat soon.
     #[tactic(auto, unfolding(crate::specs::Draws::drawn, crate::specs::Draws::next_state))]
     pub(crate) fn draw(&mut self, bound: u32) -> u32
         requires { 0 < bound }

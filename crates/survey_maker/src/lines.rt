@@ -8,8 +8,8 @@ use crate::business::Business;
 use crate::generator::Generator;
 use foundation::OutOfMemory;
 
-/// Draws a business, and what is answered for it, and appends its line, which begins with `number`, the
-/// row's own. The generator is left behind these draws.
+/// Draws a business, and what is answered for it, and appends its line with a line feed. The line begins
+/// with `number`, the row's own, from 1. The generator's next draws are those of the next row.
 pub(crate) fn write_row(
     text: &mut Vec<u8>,
     number: u32,

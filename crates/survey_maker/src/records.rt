@@ -12,7 +12,8 @@ const HEADER: &[u8] =
     b"id,Turnover,Goods,Bought,Wages,Social,Other,Costs,Profit,Staff,Full,Part,Invest,Activity,Size,Region,Form\n";
 
 /// A record file of `rows` rows, which follow from the number `start`: a header, and a line for each
-/// business, numbered from 1. A longer file from the same start begins with the same lines.
+/// business, numbered from 1. Where `rows` is 0 it is the header alone. A longer file from the same start
+/// begins with the same lines.
 #[tactic(auto, unfolding(crate::specs::RecordFiles::header_line))]
 pub fn records_text(alloc: Global, start: u32, rows: u32) -> Result<Vec<u8>, OutOfMemory>
     ensures { IfOk result (λ text. text.items ≡ record_file start rows) }

@@ -55,7 +55,7 @@ if Size in {large} then Form not in {sole}
 if Invest - 1000000 > 0 then Size not in {micro}
 ";
 
-/// The rule file of the survey, as the rule language prints it.
+/// The rule file of the survey, as the rule language prints it: a copy of `RULES` in memory of its own.
 pub fn rules_text(alloc: Global) -> Result<Vec<u8>, OutOfMemory>
     ensures { IfOk result (λ text. text.items ≡ printed survey_made) }
 {

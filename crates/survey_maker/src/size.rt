@@ -26,7 +26,7 @@ impl Size {
         }
     }
 
-    /// The least staff of the class.
+    /// How many people the smallest business of the class has.
     pub(crate) fn least_staff(self) -> u32
         ensures number { result ≡ least_staff self }
         ensures within { result ≤ 250 }
@@ -39,8 +39,8 @@ impl Size {
         }
     }
 
-    /// How many numbers of staff the class has, from its least one on. That of the last class, which has
-    /// no end, is the maker's choice.
+    /// Of how many numbers of staff one is drawn, from the least of the class on: 9 for 1 to 9. The rules set
+    /// the last class no upper end; here it has 250 to 999.
     pub(crate) fn staff_numbers(self) -> u32
         ensures number { result ≡ staff_numbers self }
         ensures some { 0 < result }
@@ -54,7 +54,7 @@ impl Size {
         }
     }
 
-    /// Whether a business of the class may be one person's.
+    /// Whether one person may own a business of the class, by the rules of the survey.
     pub(crate) fn may_be_sole(self) -> bool
         ensures { result ≡ may_be_sole self }
     {
@@ -64,7 +64,7 @@ impl Size {
         }
     }
 
-    /// The code of the class.
+    /// The code of the class, as it stands in files.
     pub(crate) fn text(self) -> &'static [u8]
         ensures { result.now ≡ size_text self }
     {

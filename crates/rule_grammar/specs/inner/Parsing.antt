@@ -27,12 +27,12 @@ use Rattle.rule_grammar.specs.declared.token.Token.TheVariants as token
 abbrev pub Reading : Type 0 → Type 0
 Reading X = Option (X × List Token)
 
--- a call that takes no memory read this, and left these tokens
+-- a call that takes no memory read this, and left these tokens; it answers None where nothing is read
 abbrev pub Reads : {X : Type 0} → Reading X → List Token → Option X → Type 0
 Reads reading left (Some x) = reading ≡ Some (x, left)
 Reads reading left None = reading ≡ None
 
--- a call that may be out of memory read this, and left these tokens
+-- a call that may be out of memory read this, and left these tokens; it answers `Unreadable` where nothing is read
 abbrev pub Parses : {X : Type 0} → Reading X → List Token → Result X Stop → Type 0
 Parses reading left (Ok x) = reading ≡ Some (x, left)
 Parses reading left (Err stop.Unreadable) = reading ≡ None
