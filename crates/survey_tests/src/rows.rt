@@ -1,5 +1,6 @@
 //! Records, and whether rules hold at them. The expected answers were worked out by hand. In contracts,
-//! `IsRow` says that a record has for each field a value of its kind, or none.
+//! `IsRow` says that a record has for each field a value of its kind, or none. `CanTry` says that it has the
+//! values that a rule's tests need, and `HasValues` says so of one test.
 ghost use Rattle.std.specs.Prelude.{◌≡◌, All, IfOk, IsTrue};
 ghost use Rattle.edit_model.specs.Rows.{IsOfKind, IsRow};
 ghost use Rattle.edit_model.specs.Trials.{CanTry, HasValues};
@@ -39,7 +40,7 @@ enum ValuePlan {
     Bad,
 }
 
-// Whether a field of this kind takes the value; Bad fits each.
+// Whether a field of this kind takes the value: a number, or the number of one of its codes. Bad fits each.
 fn is_of_kind(kind: &Kind, value: &Value) -> bool
     ensures { IsTrue result → IsOfKind kind.now value.now }
 {
@@ -101,7 +102,7 @@ fn number(numerator: i128, denominator: u32) -> Value {
     Value::Number(Fraction::reduced(numerator, i128::from(denominator)))
 }
 
-// The value that a table plans.
+// The value that a table's plan stands for. A plan with the denominator 0 gives Bad.
 fn value_of(plan: ValuePlan) -> Value {
     match plan {
         ValuePlan::Number(numerator, denominator) => number(i128::from(numerator), denominator),
@@ -111,7 +112,8 @@ fn value_of(plan: ValuePlan) -> Value {
     }
 }
 
-/// The record of the survey with these values. The test ends where they are none of its fields.
+/// The record of the survey with these values, in declared order. The test ends where they are no record of
+/// the survey, such as a code where a number belongs.
 fn row_of(
     rt: &impl Abort,
     alloc: Global,
@@ -165,7 +167,7 @@ const CASES: [(usize, [ValuePlan; 3], Option<bool>); 14] = [
 ];
 
 /// Whether the rule holds at the record, None for an overflow. The test ends where the record lacks a
-/// value that the rule asks for.
+/// value that the rule asks for, since `holds` requires it.
 fn answer_of(rt: &impl Abort, row: &Row, rule: &Rule) -> Option<bool> {
     assert!(rt; can_try(row, rule));
     holds(rule, row).ok()

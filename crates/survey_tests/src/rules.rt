@@ -6,8 +6,8 @@ use std::alloc::Global;
 use std::process::Abort;
 use std::test::Fail;
 
-/// What a rule text reads as. A text of 2^32 bytes or more ends the test, since `read_rules` asks for
-/// fewer.
+/// The survey of a rule text, or inside the answer why it has none. A text of 2^32 bytes or more ends the
+/// test, since `read_rules` asks for fewer.
 fn read(alloc: Global, text: &[u8]) -> Result<Result<Survey, RulesFault>, Fail> {
     if text.len() >= 1 << 32 {
         return Err(Fail::from("a long text"));
@@ -15,7 +15,8 @@ fn read(alloc: Global, text: &[u8]) -> Result<Result<Survey, RulesFault>, Fail> 
     Ok(read_rules(alloc, text))
 }
 
-/// The line, from 1, and the number of the kind of the text's first fault, or 0 and 0 where it has none.
+/// The line, from 1, and the number of the kind, from 1 to 9, of the text's first fault. Both are 0 where it
+/// has none. Want of memory ends the test.
 fn first_fault(alloc: Global, text: &[u8]) -> Result<(u32, u8), Fail> {
     match read(alloc, text)? {
         Ok(_) => Ok((0, 0)),

@@ -13,7 +13,7 @@ fn two_fields(alloc: Global) -> Result<Survey, Fail> {
     Ok(read_rules(alloc, b"number A\ncode Size in {s, M.1}\n")?)
 }
 
-/// Appends the texts, with a `|` after each.
+/// Appends the texts of one record to what a test compares, with a `|` after each.
 fn show_texts(shown: &mut Vec<u8>, texts: &Texts) -> Result<(), Fail> {
     for place in 0..texts.len() {
         shown.extend_from_slice(texts.get(place))?;
@@ -22,7 +22,7 @@ fn show_texts(shown: &mut Vec<u8>, texts: &Texts) -> Result<(), Fail> {
     Ok(())
 }
 
-/// The value as a text: a fraction, the number of a code behind `#`, or `bad`.
+/// The value as a text: a fraction, the number of a code, from 0, behind `#`, or `bad` where there is none.
 fn value_text(alloc: Global, value: &Value) -> Result<Vec<u8>, Fail> {
     match value {
         Value::Number(x) => Ok(x.write_text(alloc)?),

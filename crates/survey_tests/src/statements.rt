@@ -5,7 +5,8 @@ use std::alloc::Global;
 use std::process::Abort;
 use std::test::Fail;
 
-/// What a line of this text is, in one word.
+/// What a line of this text is, in one word: nothing, a declaration, a rule, or unreadable. Refused for want
+/// of memory alone.
 fn word_for(alloc: Global, text: &str) -> Result<&'static str, Fail> {
     match read_line(alloc, text.as_bytes())? {
         LineText::Empty => Ok("nothing"),
@@ -15,7 +16,8 @@ fn word_for(alloc: Global, text: &str) -> Result<&'static str, Fail> {
     }
 }
 
-/// Reads each line of the table, and compares what it is with the word behind it.
+/// Reads each line of the table, and compares what it is with the word behind it. The test ends at the first
+/// that differs.
 fn tell_lines(rt: &impl Abort, alloc: Global, cases: &[(&str, &str)]) -> Result<(), Fail> {
     for (text, word) in cases {
         assert_eq!(rt; word_for(alloc, text)?, *word, "at {text:?}");
@@ -52,7 +54,7 @@ fn a_line_is_a_statement_or_unreadable(rt: HostRuntime) -> Result<(), Fail> {
     )
 }
 
-// The parser does not go deeper with each term.
+// A sum of many terms is read as a rule: the parser reads terms in a loop, so that the stack is not used up.
 #[test]
 fn a_sum_of_100_000_terms_is_read(rt: HostRuntime) -> Result<(), Fail> {
     let mut text = String::new(rt.alloc());

@@ -5,7 +5,8 @@ use edit_model::{Field, Kind, Name, Survey, SurveyFault};
 use std::alloc::Global;
 use std::test::Fail;
 
-/// A survey of `count` fields that all have one name of 32 bytes, or why they make none.
+/// A survey of `count` fields that all have one name of 32 bytes, or inside the answer why they make none.
+/// The outer fault is want of memory, which ends the test.
 fn fields_of_one_name(alloc: Global, count: usize) -> Result<Result<Survey, SurveyFault>, Fail> {
     let mut fields = Vec::new(alloc);
     for _ in 0..count {
@@ -29,7 +30,8 @@ fn a_name_is_declared_once(rt: HostRuntime) -> Result<(), Fail> {
     Ok(())
 }
 
-/// A survey of one numerical field of this weight, or why it makes none.
+/// A survey of one numerical field of this weight, or inside the answer why it makes none. The outer fault
+/// is want of memory, which ends the test.
 fn number_of_weight(alloc: Global, weight: u32) -> Result<Result<Survey, SurveyFault>, Fail> {
     let mut fields = Vec::new(alloc);
     fields.push(Field {
