@@ -90,7 +90,8 @@ fn check_of<'a>(found: &ArgMatches<'a>) -> Option<CheckWords<'a>>
     })
 }
 
-// Whether no two of the names lead to one file, as far as the names show.
+// Whether no two of the four names lead to one file, as far as the names show. Each is compared with those
+// behind it.
 fn are_apart(rules: &str, records: &str, released: &str, proof: &str) -> bool
     ensures { IsTrue result ↔ AreApart (rules.now ∷ records.now ∷ released.now ∷ proof.now ∷ []) }
 {

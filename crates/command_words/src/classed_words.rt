@@ -56,7 +56,7 @@ pub fn classed_asked<'a>(
     Ok(classed_of(&found))
 }
 
-// The command `classed`, as `clap` is told of it: the options of an edit, and `--class`.
+// The command `classed`, as `clap` is told of it: the options of an edit, and `--class`, which has to stand.
 fn command<'a>(alloc: Global) -> Result<Command<'a>, OutOfMemory>
     ensures { IfOk result (λ command. app_of command ≡ classed_command) }
 {
@@ -64,8 +64,8 @@ fn command<'a>(alloc: Global) -> Result<Command<'a>, OutOfMemory>
     with_required(alloc, command, &["class"])
 }
 
-// What is asked for by what was found for the options. None where they give no edit (`edit_of`), or
-// `--class` was left out.
+// What the command is asked for, by what was found for its options. None where they give no edit
+// (`edit_of`), or `--class` was left out.
 fn classed_of<'a>(found: &ArgMatches<'a>) -> Option<ClassedWords<'a>>
     ensures some { IfSome result (GivesClassed (rows_in found.now)) }
     ensures none { IfNone result ((asked : ClassedAsked) → ¬ GivesClassed (rows_in found.now) asked) }

@@ -119,7 +119,8 @@ pub fn edit_asked<'a>(
     Ok(edit_of(&found))
 }
 
-/// The command of this name, with the options of an edit. Both `edit` and `classed` have them.
+/// The command of this name, as `clap` is told of it, with the options of an edit: five that have to stand,
+/// and four that may be left out. Both `edit` and `classed` have them.
 pub(crate) fn edit_command_named<'a>(
     alloc: Global,
     name: &'a str,
@@ -165,7 +166,8 @@ pub(crate) fn edit_of<'a>(found: &ArgMatches<'a>) -> Option<EditWords<'a>>
     })
 }
 
-/// Whether no two of the names lead to one file, as far as the names show. No memory.
+/// Whether no two of the five names lead to one file, as far as the names show. Each is compared with those
+/// behind it. The command `page` asks it of its own five names. No memory.
 pub(crate) fn are_apart(
     rules: &str,
     records: &str,

@@ -14,7 +14,8 @@ pub(crate) fn is_apart_from(name: &str, others: &[&str]) -> bool
     !others.iter().any(|other| lead_to_one(name, other))
 }
 
-/// Whether both names lead to one file, as `records.csv`, `./records.csv` and `.//records.csv` do. No memory.
+/// Whether both names lead to one file, as `records.csv`, `./records.csv` and `.//records.csv` do: their
+/// folders and files are the same, part by part. No memory.
 pub(crate) fn lead_to_one(a: &str, b: &str) -> bool
     ensures { IsTrue result ↔ LeadToOne a.now b.now }
 {
@@ -31,8 +32,8 @@ pub(crate) fn lead_to_one(a: &str, b: &str) -> bool
     right.next().is_none()
 }
 
-// The folders that the name leads through, and the file. A `.` in front is passed over here, as
-// `components` passes over it anywhere else.
+// The folders that the name leads through, and the file, in order. A `.` in front is passed over here, as
+// `components` passes over it anywhere else. None are left of the empty name, or of `.` alone.
 fn parts_of(name: &str) -> Components<'_>
     ensures { components_remaining result ≡ file_parts name.now }
 {

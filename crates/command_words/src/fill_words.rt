@@ -79,8 +79,8 @@ fn command<'a>(alloc: Global) -> Result<Command<'a>, OutOfMemory>
     with_optional(alloc, command, &["budget"])
 }
 
-// What is asked for by what was found for the options. None where one of the three names was left out, the
-// budget is out of its bounds, or two names lead to one file.
+// What the command is asked for, by what was found for its options. None where one of the three names was
+// left out, the budget is out of its bounds, or two names lead to one file.
 fn fill_of<'a>(found: &ArgMatches<'a>) -> Option<FillWords<'a>>
     ensures some { IfSome result (GivesFill (rows_in found.now)) }
     ensures none { IfNone result ((asked : FillAsked) → ¬ GivesFill (rows_in found.now) asked) }
@@ -100,7 +100,7 @@ fn fill_of<'a>(found: &ArgMatches<'a>) -> Option<FillWords<'a>>
     })
 }
 
-// Whether no two of the names lead to one file, as far as the names show.
+// Whether no two of the three names lead to one file, as far as the names show.
 fn are_apart(rules: &str, records: &str, released: &str) -> bool
     ensures { IsTrue result ↔ AreApart (rules.now ∷ records.now ∷ released.now ∷ []) }
 {

@@ -91,8 +91,8 @@ fn command<'a>(alloc: Global) -> Result<Command<'a>, OutOfMemory>
     with_optional(alloc, command, &["start", "rows"])
 }
 
-// What is to be made, by what was found for the options. None where one of the names was left out, a
-// number is out of its bounds, or both names lead to one file.
+// What the command is asked for, by what was found for its options. None where one of the two names was
+// left out, a number is out of its bounds, or both names lead to one file.
 fn make_of<'a>(found: &ArgMatches<'a>) -> Option<MakeWords<'a>>
     ensures some { IfSome result (GivesMake (rows_in found.now)) }
     ensures none { IfNone result ((asked : MakeAsked) → ¬ GivesMake (rows_in found.now) asked) }

@@ -26,8 +26,8 @@ pub(crate) const MOST_BUDGET: u64 = 1_000_000_000;
 /// The most digits of a number. So no number passes 64 bits.
 const MOST_DIGITS: usize = 10;
 
-/// The command of this name, without an option so far. The words that it is matched with begin behind its
-/// name. No flag asks for its help, so `--help` is no word of it.
+/// The command of this name, as `clap` is told of it, without an option so far. The words that it is matched
+/// with begin behind its name. No flag asks for its help, so `--help` is no word of it.
 pub(crate) fn command_named<'a>(alloc: Global, name: &'a str) -> Command<'a>
     ensures { app_of result ≡ command_with name.entry.now [] }
 {
@@ -36,7 +36,7 @@ pub(crate) fn command_named<'a>(alloc: Global, name: &'a str) -> Command<'a>
         .disable_help_flag(true)
 }
 
-// The option `--name`, which is given one value where it stands.
+// The option `--name`, which may be left out. Where it stands, it is given one value.
 fn optional_arg<'a>(alloc: Global, name: &'a str) -> Arg<'a>
     ensures option { rule_of result ≡ may_stand name.entry.now }
     ensures local { result.global ≡ false }
@@ -52,7 +52,9 @@ fn required_arg<'a>(alloc: Global, name: &'a str) -> Arg<'a>
     optional_arg(alloc, name).required(true)
 }
 
-/// The command with one more option for each of `names`, in order: `--name`, which has to stand.
+/// The command with one more option for each of `names`, in order: `--name`, which has to stand, as the name
+/// of a file has to. `clap` refuses the words where it is left out. It differs from `with_optional` in this
+/// alone.
 pub(crate) fn with_required<'a>(
     alloc: Global,
     mut command: Command<'a>,
@@ -66,7 +68,8 @@ pub(crate) fn with_required<'a>(
     Ok(command)
 }
 
-/// The command with one more option for each of `names`, in order: `--name`, which may be left out.
+/// The command with one more option for each of `names`, in order: `--name`, which may be left out, as a
+/// number may that has a default. It differs from `with_required` in this alone.
 pub(crate) fn with_optional<'a>(
     alloc: Global,
     mut command: Command<'a>,
@@ -80,8 +83,8 @@ pub(crate) fn with_optional<'a>(
     Ok(command)
 }
 
-/// The words behind the first one, where that is the command's `name`. None where it is another, or there
-/// is no word. No memory.
+/// The words behind the first one, where that is the command's `name`, byte for byte. None where it is
+/// another, or there is no word: then another command may be meant. No memory.
 pub(crate) fn words_behind<'a>(name: &str, words: &'a [String]) -> Option<&'a [String]>
     ensures some { IfSome result (λ others. map string_bytes words.entry.now ≡ name.now ∷ map string_bytes others.now) }
     ensures none { IfNone result ((others : List (List ℕ)) → map string_bytes words.entry.now ≢ name.now ∷ others) }
@@ -95,7 +98,8 @@ pub(crate) fn words_behind<'a>(name: &str, words: &'a [String]) -> Option<&'a [S
 }
 
 /// What `clap` finds in the words behind the name of the command. None where it does not take them: an
-/// option is unknown, say, or one is left out that has to stand.
+/// option is unknown, say, or one is left out that has to stand. `is_simple_and_free` says that no option
+/// has a rule on another, nor anything else that `clap`'s contracts leave open. Each command here is so.
 pub(crate) fn found_in<'a>(
     command: Command<'a>,
     words: &'a [String],

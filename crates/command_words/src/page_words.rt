@@ -80,8 +80,8 @@ fn command<'a>(alloc: Global) -> Result<Command<'a>, OutOfMemory>
     )
 }
 
-// What is asked for by what was found for the options. None where one of the five was left out, or two
-// names lead to one file.
+// What the command is asked for, by what was found for its options. None where one of the five was left
+// out, or two names lead to one file.
 fn page_of<'a>(found: &ArgMatches<'a>) -> Option<PageWords<'a>>
     ensures some { IfSome result (GivesPage (rows_in found.now)) }
     ensures none { IfNone result ((asked : PageAsked) → ¬ GivesPage (rows_in found.now) asked) }

@@ -102,8 +102,8 @@ fn command<'a>(alloc: Global) -> Result<Command<'a>, OutOfMemory>
     with_optional(alloc, command, &["budget"])
 }
 
-// What is asked for by what was found for the options. None where one of the seven was left out, the
-// budget is out of its bounds, or two names of files lead to one file.
+// What the command is asked for, by what was found for its options. None where one of the seven was left
+// out, the budget is out of its bounds, or two names of files lead to one file.
 fn panel_of<'a>(found: &ArgMatches<'a>) -> Option<PanelWords<'a>>
     ensures some { IfSome result (GivesPanel (rows_in found.now)) }
     ensures none { IfNone result ((asked : PanelAsked) → ¬ GivesPanel (rows_in found.now) asked) }
@@ -131,7 +131,8 @@ fn panel_of<'a>(found: &ArgMatches<'a>) -> Option<PanelWords<'a>>
     })
 }
 
-// Whether no two of the names lead to one file, as far as the names show.
+// Whether no two of the six names lead to one file, as far as the names show. Each is compared with those
+// behind it.
 fn are_apart(
     rules: &str,
     records: &str,

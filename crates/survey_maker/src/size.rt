@@ -39,8 +39,8 @@ impl Size {
         }
     }
 
-    /// Of how many numbers of staff one is drawn, from the least of the class on: 9 for 1 to 9. The rules set
-    /// the last class no upper end; here it has 250 to 999.
+    /// How many numbers of staff a business of the class may have, from the least on: 9 for 1 to 9. One of
+    /// them is drawn. The rules set the last class no upper end; here it has 250 to 999.
     pub(crate) fn staff_numbers(self) -> u32
         ensures number { result ≡ staff_numbers self }
         ensures some { 0 < result }
