@@ -6,7 +6,7 @@ ghost use Rattle.rule_grammar.specs.Spellings.{AreLongestTokens};
 ghost use Rattle.rule_grammar.specs.Tokens.{tokens_of};
 
 use crate::cursor::Cursor;
-use crate::parser::{Fault, is_over, statement};
+use crate::parser::{Fault, is_over, read_statement};
 use crate::statement::Statement;
 use foundation::OutOfMemory;
 use std::alloc::Global;
@@ -34,7 +34,7 @@ pub fn read_line(alloc: Global, text: &[u8]) -> Result<LineText, OutOfMemory>
     if is_over(&cursor) {
         return Ok(LineText::Empty);
     }
-    let says = match statement(alloc, &mut cursor) {
+    let says = match read_statement(alloc, &mut cursor) {
         Ok(says) => says,
         Err(Fault::Unreadable) => return Ok(LineText::Unreadable),
         Err(Fault::OutOfMemory) => return Err(OutOfMemory),

@@ -12,4 +12,4 @@ mod sums;
 
 pub(crate) use fault::Fault;
 pub(crate) use marks::is_over;
-pub(crate) use statements::statement;
+pub(crate) use statements::read_statement;

@@ -10,7 +10,7 @@ ghost use Rattle.rule_grammar.specs.inner.Parsing.{Parses, and_test_at, and_test
 
 use crate::cursor::Cursor;
 use crate::parser::fault::Fault;
-use crate::parser::field_tests::test;
+use crate::parser::field_tests::read_test;
 use crate::parser::marks::{has_word, take_word};
 use crate::statement::{RuleText, TestText};
 use crate::token::Keyword;
@@ -18,19 +18,19 @@ use foundation::Sequence;
 use std::alloc::Global;
 
 /// Reads `and` and the test behind it, which is one more condition of a rule.
-fn and_test(alloc: Global, cursor: &mut Cursor) -> Result<TestText, Fault>
+fn read_and_test(alloc: Global, cursor: &mut Cursor) -> Result<TestText, Fault>
     ensures { Parses (and_test_at cursor.old) cursor.new result }
 {
     if !take_word(cursor, Keyword::And) {
         return Err(Fault::Unreadable);
     }
-    test(alloc, cursor)
+    read_test(alloc, cursor)
 }
 
 /// Reads the further conditions of a rule, each with its `and`, as long as an `and` comes next. It answers
 /// all conditions: `first`, which is read already, and these.
 #[tactic(auto, using(crate::proofs::ManyLaws::many_turns, crate::proofs::TestLaws::and_test_shortens))]
-fn and_tests(
+fn read_and_tests(
     alloc: Global,
     cursor: &mut Cursor,
     first: TestText,
@@ -40,13 +40,13 @@ fn and_tests(
     let mut tests = Vec::new(alloc);
     tests.push(first)?;
     while has_word(cursor, Keyword::And) {
-        tests.push(and_test(alloc, cursor)?)?;
+        tests.push(read_and_test(alloc, cursor)?)?;
     }
     Ok(Sequence::from_vec(tests))
 }
 
 /// Reads `then` and the test that follows from the conditions, which are read already.
-fn conclusion(
+fn read_conclusion(
     alloc: Global,
     cursor: &mut Cursor,
     conditions: Sequence<TestText>,
@@ -56,7 +56,7 @@ fn conclusion(
     if !take_word(cursor, Keyword::Then) {
         return Err(Fault::Unreadable);
     }
-    let conclusion = test(alloc, cursor)?;
+    let conclusion = read_test(alloc, cursor)?;
     Ok(RuleText {
         conditions,
         conclusion,
@@ -64,22 +64,22 @@ fn conclusion(
 }
 
 /// Reads a rule with conditions, from behind its `if`.
-fn conditional(alloc: Global, cursor: &mut Cursor) -> Result<RuleText, Fault>
+fn read_conditional(alloc: Global, cursor: &mut Cursor) -> Result<RuleText, Fault>
     ensures { Parses (conditional_at cursor.old) cursor.new result }
 {
-    let first = test(alloc, cursor)?;
-    let conditions = and_tests(alloc, cursor, first)?;
-    conclusion(alloc, cursor, conditions)
+    let first = read_test(alloc, cursor)?;
+    let conditions = read_and_tests(alloc, cursor, first)?;
+    read_conclusion(alloc, cursor, conditions)
 }
 
 /// Reads a rule: with conditions where it begins with `if`, and else a test alone.
-pub(crate) fn rule(alloc: Global, cursor: &mut Cursor) -> Result<RuleText, Fault>
+pub(crate) fn read_rule(alloc: Global, cursor: &mut Cursor) -> Result<RuleText, Fault>
     ensures { Parses (rule_at cursor.old) cursor.new result }
 {
     if take_word(cursor, Keyword::If) {
-        return conditional(alloc, cursor);
+        return read_conditional(alloc, cursor);
     }
-    let conclusion = test(alloc, cursor)?;
+    let conclusion = read_test(alloc, cursor)?;
     Ok(RuleText {
         conditions: Sequence::from_vec(Vec::new(alloc)),
         conclusion,

@@ -7,7 +7,7 @@ ghost use Rattle.rule_grammar.specs.inner.Parsing.{Parses, Reads, code_field_at,
 
 use crate::cursor::Cursor;
 use crate::parser::fault::Fault;
-use crate::parser::lists::in_list;
+use crate::parser::lists::read_in_list;
 use crate::parser::marks::{take_name, take_numeral, take_word};
 use crate::statement::Declaration;
 use crate::token::{Keyword, Numeral};
@@ -16,7 +16,7 @@ use std::alloc::Global;
 /// Reads a part that may be left out: the keyword `word`, and the numeral behind it. `Some(None)` where
 /// another token comes next: the part is left out. None where the keyword does, and no numeral is behind
 /// it.
-fn optional(cursor: &mut Cursor, word: Keyword) -> Option<Option<Numeral>>
+fn read_optional_numeral(cursor: &mut Cursor, word: Keyword) -> Option<Option<Numeral>>
     ensures { Reads (option_at word cursor.old) cursor.new result }
 {
     if take_word(cursor, word) {
@@ -28,12 +28,12 @@ fn optional(cursor: &mut Cursor, word: Keyword) -> Option<Option<Numeral>>
 
 /// Reads the declaration of a numerical field, from behind the word `number`: its name, and its weight and
 /// its scale, where they are written. None where the tokens don't begin with one.
-pub(crate) fn number(cursor: &mut Cursor) -> Option<Declaration>
+pub(crate) fn read_number_field(cursor: &mut Cursor) -> Option<Declaration>
     ensures { Reads (number_at cursor.old) cursor.new result }
 {
     let name = take_name(cursor)?;
-    let weight = optional(cursor, Keyword::Weight)?;
-    let scale = optional(cursor, Keyword::Scale)?;
+    let weight = read_optional_numeral(cursor, Keyword::Weight)?;
+    let scale = read_optional_numeral(cursor, Keyword::Scale)?;
     Some(Declaration::Number {
         name,
         weight,
@@ -43,11 +43,11 @@ pub(crate) fn number(cursor: &mut Cursor) -> Option<Declaration>
 
 /// Reads the declaration of a categorical field, from behind the word `code`: its name, its weight, if one
 /// is written, and its list of codes. `Unreadable` where the tokens don't begin with one.
-pub(crate) fn code(alloc: Global, cursor: &mut Cursor) -> Result<Declaration, Fault>
+pub(crate) fn read_code_field(alloc: Global, cursor: &mut Cursor) -> Result<Declaration, Fault>
     ensures { Parses (code_field_at cursor.old) cursor.new result }
 {
     let name = take_name(cursor).ok_or(Fault::Unreadable)?;
-    let weight = optional(cursor, Keyword::Weight).ok_or(Fault::Unreadable)?;
-    let list = in_list(alloc, cursor)?;
+    let weight = read_optional_numeral(cursor, Keyword::Weight).ok_or(Fault::Unreadable)?;
+    let list = read_in_list(alloc, cursor)?;
     Ok(Declaration::Code { name, weight, list })
 }

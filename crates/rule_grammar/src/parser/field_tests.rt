@@ -8,9 +8,9 @@ ghost use Rattle.rule_grammar.specs.inner.Parsing.{Parses, codes_after, compared
 
 use crate::cursor::Cursor;
 use crate::parser::fault::Fault;
-use crate::parser::lists::in_list;
+use crate::parser::lists::read_in_list;
 use crate::parser::marks::{has_name, has_word, take_compare, take_name, take_word};
-use crate::parser::sums::{sum, sum_from};
+use crate::parser::sums::{read_rest_of_sum, read_sum};
 use crate::statement::{SumText, TermText, TestText};
 use crate::token::Keyword;
 use edit_model::Name;
@@ -18,11 +18,11 @@ use std::alloc::Global;
 
 /// Reads the comparison and the right sum of a test whose `left` sum is taken already. `Unreadable` where
 /// one of them is not there.
-fn comparison_from(alloc: Global, cursor: &mut Cursor, left: SumText) -> Result<TestText, Fault>
+fn read_comparison(alloc: Global, cursor: &mut Cursor, left: SumText) -> Result<TestText, Fault>
     ensures { Parses (compared_at left cursor.old) cursor.new result }
 {
     let compare = take_compare(cursor).ok_or(Fault::Unreadable)?;
-    let right = sum(alloc, cursor)?;
+    let right = read_sum(alloc, cursor)?;
     Ok(TestText::Sums {
         left,
         compare,
@@ -32,19 +32,24 @@ fn comparison_from(alloc: Global, cursor: &mut Cursor, left: SumText) -> Result<
 
 /// Reads the rest of a test of two sums that begins with this field's name, which is taken already. The
 /// name is the first term of the left sum.
-fn sums(alloc: Global, cursor: &mut Cursor, field: Name) -> Result<TestText, Fault>
+fn read_sums_test(alloc: Global, cursor: &mut Cursor, field: Name) -> Result<TestText, Fault>
     ensures { Parses (sums_after field cursor.old) cursor.new result }
 {
-    let left = sum_from(alloc, cursor, None, TermText::Field(field))?;
-    comparison_from(alloc, cursor, left)
+    let left = read_rest_of_sum(alloc, cursor, None, TermText::Field(field))?;
+    read_comparison(alloc, cursor, left)
 }
 
 /// Reads `in` and the list of a test of codes. The name of its field is taken already, and so is the `not`
 /// before `in` where `negated` says that one stands there.
-fn codes(alloc: Global, cursor: &mut Cursor, field: Name, negated: bool) -> Result<TestText, Fault>
+fn read_codes_test(
+    alloc: Global,
+    cursor: &mut Cursor,
+    field: Name,
+    negated: bool,
+) -> Result<TestText, Fault>
     ensures { Parses (codes_after field negated cursor.old) cursor.new result }
 {
-    let list = in_list(alloc, cursor)?;
+    let list = read_in_list(alloc, cursor)?;
     Ok(TestText::Codes {
         field,
         negated,
@@ -54,26 +59,26 @@ fn codes(alloc: Global, cursor: &mut Cursor, field: Name, negated: bool) -> Resu
 
 /// Reads the rest of a test that begins with this field's name, which is taken already. It is a test of
 /// codes where `not` or `in` comes next, and else of sums.
-fn test_from(alloc: Global, cursor: &mut Cursor, field: Name) -> Result<TestText, Fault>
+fn read_rest_of_test(alloc: Global, cursor: &mut Cursor, field: Name) -> Result<TestText, Fault>
     ensures { Parses (test_after field cursor.old) cursor.new result }
 {
     if take_word(cursor, Keyword::Not) {
-        return codes(alloc, cursor, field, true);
+        return read_codes_test(alloc, cursor, field, true);
     }
     if has_word(cursor, Keyword::In) {
-        return codes(alloc, cursor, field, false);
+        return read_codes_test(alloc, cursor, field, false);
     }
-    sums(alloc, cursor, field)
+    read_sums_test(alloc, cursor, field)
 }
 
 /// Reads a test, of codes or of two sums. `Unreadable` where the tokens begin with neither.
-pub(crate) fn test(alloc: Global, cursor: &mut Cursor) -> Result<TestText, Fault>
+pub(crate) fn read_test(alloc: Global, cursor: &mut Cursor) -> Result<TestText, Fault>
     ensures { Parses (test_at cursor.old) cursor.new result }
 {
     if has_name(cursor) {
         let field = take_name(cursor).ok_or(Fault::Unreadable)?;
-        return test_from(alloc, cursor, field);
+        return read_rest_of_test(alloc, cursor, field);
     }
-    let left = sum(alloc, cursor)?;
-    comparison_from(alloc, cursor, left)
+    let left = read_sum(alloc, cursor)?;
+    read_comparison(alloc, cursor, left)
 }

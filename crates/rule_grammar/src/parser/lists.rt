@@ -16,7 +16,7 @@ use std::alloc::Global;
 
 /// Reads a comma and the code behind it. None where another token comes next, or no code is behind the
 /// comma.
-fn comma_code(cursor: &mut Cursor) -> Option<Name>
+fn read_comma_code(cursor: &mut Cursor) -> Option<Name>
     ensures { Reads (comma_code_at cursor.old) cursor.new result }
 {
     match cursor.take() {
@@ -27,12 +27,12 @@ fn comma_code(cursor: &mut Cursor) -> Option<Name>
 
 /// Reads codes, each behind a comma, as long as a comma comes next. A comma without a code is unreadable.
 #[tactic(auto, using(crate::proofs::ManyLaws::many_turns, crate::proofs::ListLaws::comma_code_shortens))]
-fn comma_codes(alloc: Global, cursor: &mut Cursor) -> Result<Sequence<Name>, Fault>
+fn read_comma_codes(alloc: Global, cursor: &mut Cursor) -> Result<Sequence<Name>, Fault>
     ensures { Parses (many_at is_comma comma_code_at cursor.old) cursor.new result }
 {
     let mut codes = Vec::new(alloc);
     while has_comma(cursor) {
-        let next = comma_code(cursor).ok_or(Fault::Unreadable)?;
+        let next = read_comma_code(cursor).ok_or(Fault::Unreadable)?;
         codes.push(next)?;
     }
     Ok(Sequence::from_vec(codes))
@@ -40,10 +40,10 @@ fn comma_codes(alloc: Global, cursor: &mut Cursor) -> Result<Sequence<Name>, Fau
 
 /// Reads the further codes of a list and the brace that closes it. `first`, the first code, is taken
 /// already, with the brace before it. `Unreadable` where no such brace follows.
-fn list_from(alloc: Global, cursor: &mut Cursor, first: Name) -> Result<CodeList, Fault>
+fn read_rest_of_list(alloc: Global, cursor: &mut Cursor, first: Name) -> Result<CodeList, Fault>
     ensures { Parses (codes_at first cursor.old) cursor.new result }
 {
-    let rest = comma_codes(alloc, cursor)?;
+    let rest = read_comma_codes(alloc, cursor)?;
     match cursor.take() {
         Some(Token::Close) => Ok(CodeList { first, rest }),
         _ => Err(Fault::Unreadable),
@@ -51,22 +51,22 @@ fn list_from(alloc: Global, cursor: &mut Cursor, first: Name) -> Result<CodeList
 }
 
 /// Reads a list of at least one code, with its braces. `Unreadable` where the tokens don't begin with one.
-fn list(alloc: Global, cursor: &mut Cursor) -> Result<CodeList, Fault>
+fn read_list(alloc: Global, cursor: &mut Cursor) -> Result<CodeList, Fault>
     ensures { Parses (list_at cursor.old) cursor.new result }
 {
     let Some(Token::Open) = cursor.take() else {
         return Err(Fault::Unreadable);
     };
     let first = take_code(cursor).ok_or(Fault::Unreadable)?;
-    list_from(alloc, cursor, first)
+    read_rest_of_list(alloc, cursor, first)
 }
 
 /// Reads `in` and the list of codes behind it. `Unreadable` where the tokens don't begin so.
-pub(crate) fn in_list(alloc: Global, cursor: &mut Cursor) -> Result<CodeList, Fault>
+pub(crate) fn read_in_list(alloc: Global, cursor: &mut Cursor) -> Result<CodeList, Fault>
     ensures { Parses (in_list_at cursor.old) cursor.new result }
 {
     if !take_word(cursor, Keyword::In) {
         return Err(Fault::Unreadable);
     }
-    list(alloc, cursor)
+    read_list(alloc, cursor)
 }

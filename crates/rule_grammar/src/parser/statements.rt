@@ -7,8 +7,8 @@
 ghost use Rattle.rule_grammar.specs.inner.Parsing.{Parses, statement_at};
 
 use crate::cursor::Cursor;
-use crate::parser::conditions::rule;
-use crate::parser::declarations::{code, number};
+use crate::parser::conditions::read_rule;
+use crate::parser::declarations::{read_code_field, read_number_field};
 use crate::parser::fault::Fault;
 use crate::parser::marks::take_word;
 use crate::statement::Statement;
@@ -17,17 +17,17 @@ use std::alloc::Global;
 
 /// Reads a statement at the front of the tokens. `Unreadable` where they don't begin with one; tokens may
 /// be left behind it.
-pub(crate) fn statement(alloc: Global, cursor: &mut Cursor) -> Result<Statement, Fault>
+pub(crate) fn read_statement(alloc: Global, cursor: &mut Cursor) -> Result<Statement, Fault>
     ensures { Parses (statement_at cursor.old) cursor.new result }
 {
     if take_word(cursor, Keyword::Number) {
-        let declaration = number(cursor).ok_or(Fault::Unreadable)?;
+        let declaration = read_number_field(cursor).ok_or(Fault::Unreadable)?;
         return Ok(Statement::Declaration(declaration));
     }
     if take_word(cursor, Keyword::Code) {
-        let declaration = code(alloc, cursor)?;
+        let declaration = read_code_field(alloc, cursor)?;
         return Ok(Statement::Declaration(declaration));
     }
-    let rule = rule(alloc, cursor)?;
+    let rule = read_rule(alloc, cursor)?;
     Ok(Statement::Rule(rule))
 }

@@ -16,7 +16,7 @@ use std::alloc::Global;
 
 /// Reads the rest of a term that begins with the numeral `number`, which is taken already. It is a product
 /// where `*` or a name comes next, and else a constant. None where no name is behind a `*`.
-fn term_of_numeral(cursor: &mut Cursor, number: Numeral) -> Option<TermText>
+fn read_rest_of_term(cursor: &mut Cursor, number: Numeral) -> Option<TermText>
     ensures { Reads (factor_at number cursor.old) cursor.new result }
 {
     let times = match cursor.front() {
@@ -37,33 +37,33 @@ fn term_of_numeral(cursor: &mut Cursor, number: Numeral) -> Option<TermText>
 
 /// Reads a term without its sign. None where neither a name nor a numeral comes next, or no name is behind
 /// a `*`.
-fn term(cursor: &mut Cursor) -> Option<TermText>
+fn read_term(cursor: &mut Cursor) -> Option<TermText>
     ensures { Reads (term_at cursor.old) cursor.new result }
 {
     match cursor.take() {
         Some(Token::Name(field)) => Some(TermText::Field(field)),
-        Some(Token::Numeral(number)) => term_of_numeral(cursor, number),
+        Some(Token::Numeral(number)) => read_rest_of_term(cursor, number),
         _ => None,
     }
 }
 
 /// Reads a sign and the term behind it. None where no sign comes next, or no term is behind it.
-fn signed_term(cursor: &mut Cursor) -> Option<SignedTerm>
+fn read_signed_term(cursor: &mut Cursor) -> Option<SignedTerm>
     ensures { Reads (signed_term_at cursor.old) cursor.new result }
 {
     let sign = take_sign(cursor)?;
-    let term = term(cursor)?;
+    let term = read_term(cursor)?;
     Some(SignedTerm { sign, term })
 }
 
 /// Reads signed terms, as long as a sign comes next. A sign without a term is unreadable.
 #[tactic(auto, using(crate::proofs::ManyLaws::many_turns, crate::proofs::SumLaws::signed_term_shortens))]
-fn signed_terms(alloc: Global, cursor: &mut Cursor) -> Result<Sequence<SignedTerm>, Fault>
+fn read_signed_terms(alloc: Global, cursor: &mut Cursor) -> Result<Sequence<SignedTerm>, Fault>
     ensures { Parses (many_at is_sign signed_term_at cursor.old) cursor.new result }
 {
     let mut terms = Vec::new(alloc);
     while has_sign(cursor) {
-        let next = signed_term(cursor).ok_or(Fault::Unreadable)?;
+        let next = read_signed_term(cursor).ok_or(Fault::Unreadable)?;
         terms.push(next)?;
     }
     Ok(Sequence::from_vec(terms))
@@ -71,7 +71,7 @@ fn signed_terms(alloc: Global, cursor: &mut Cursor) -> Result<Sequence<SignedTer
 
 /// Reads the further terms of a sum, of which there may be none. Its first term is taken already, and so is
 /// the sign before it, if there is one. `Unreadable` where a sign has no term behind it.
-pub(crate) fn sum_from(
+pub(crate) fn read_rest_of_sum(
     alloc: Global,
     cursor: &mut Cursor,
     sign: Option<Sign>,
@@ -79,13 +79,13 @@ pub(crate) fn sum_from(
 ) -> Result<SumText, Fault>
     ensures { Parses (sum_after sign first cursor.old) cursor.new result }
 {
-    let rest = signed_terms(alloc, cursor)?;
+    let rest = read_signed_terms(alloc, cursor)?;
     Ok(SumText { sign, first, rest })
 }
 
 /// Reads a sum: a term, with a sign in front or not, and further terms with their signs. `Unreadable` where
 /// no term comes first, or a sign has none behind it.
-pub(crate) fn sum(alloc: Global, cursor: &mut Cursor) -> Result<SumText, Fault>
+pub(crate) fn read_sum(alloc: Global, cursor: &mut Cursor) -> Result<SumText, Fault>
     ensures { Parses (sum_at cursor.old) cursor.new result }
 {
     let sign = if has_sign(cursor) {
@@ -93,6 +93,6 @@ pub(crate) fn sum(alloc: Global, cursor: &mut Cursor) -> Result<SumText, Fault>
     } else {
         None
     };
-    let first = term(cursor).ok_or(Fault::Unreadable)?;
-    sum_from(alloc, cursor, sign, first)
+    let first = read_term(cursor).ok_or(Fault::Unreadable)?;
+    read_rest_of_sum(alloc, cursor, sign, first)
 }

@@ -4,5 +4,5 @@ use Rattle.rule_grammar.specs.inner.Parsing.{statement_at}
 use Rattle.rule_grammar.proofs.line.read_line.Goals as goal
 
 pub returns-clause-text : goal.returns-clause-text
-returns-clause-text c = line_says c.args.text.now c.in-Ok.says c.statement.new.cursor (ap statement_at (sym c.new-cursor.ensures) ∙ c.in-Ok.ensures)
+returns-clause-text c = line_says c.args.text.now c.in-Ok.says c.read_statement.new.cursor (ap statement_at (sym c.new-cursor.ensures) ∙ c.in-Ok.ensures)
     (sym c.if-not-is_over.ensures)
