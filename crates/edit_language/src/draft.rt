@@ -15,7 +15,7 @@ ghost use Rattle.edit_language.specs.inner.LineFaults.{IsFaultOfLine, IsFaultOfS
 
 use crate::fault::{RulesFault, RulesKind};
 use crate::first_fault::fault_of;
-use crate::line::{has_bad_byte, read_part};
+use crate::line::{has_bad_byte, part_to_read};
 use crate::meaning::{field_of, rule_of};
 use edit_model::{Field, Rule, Survey};
 use foundation::OutOfMemory;
@@ -54,7 +54,7 @@ impl Draft {
 
     // Adds the field that a declaration declares, behind the others. The caller has found no fault in the
     // declaration. Refused for want of memory alone.
-    fn declare(&mut self, declaration: Declaration) -> Result<(), OutOfMemory>
+    fn add_field(&mut self, declaration: Declaration) -> Result<(), OutOfMemory>
         requires names { GivesNames (Statement.Declaration declaration) }
         requires faultless { declaration_fault self.old declaration ≡ None }
         ensures { OnOk result (self.new ≡ extended self.old (Statement.Declaration declaration)) }
@@ -65,7 +65,7 @@ impl Draft {
 
     // Adds the edit that a rule's text means, behind the others. The caller has found no fault in the rule.
     // Refused for want of memory alone.
-    fn set(&mut self, alloc: Global, rule: &RuleText) -> Result<(), OutOfMemory>
+    fn add_rule(&mut self, alloc: Global, rule: &RuleText) -> Result<(), OutOfMemory>
         requires { rule_fault self.old rule.now ≡ None }
         ensures { OnOk result (self.new ≡ extended self.old (Statement.Rule rule.now)) }
     {
@@ -76,14 +76,14 @@ impl Draft {
 
     // Adds what a statement says: a field, or an edit. The caller has found no fault in the statement, by
     // the fields and rules of the lines before it. Refused for want of memory alone.
-    fn extend(&mut self, alloc: Global, statement: Statement) -> Result<(), OutOfMemory>
+    fn add_statement(&mut self, alloc: Global, statement: Statement) -> Result<(), OutOfMemory>
         requires names { GivesNames statement }
         requires faultless { fault_of self.old statement ≡ None }
         ensures { OnOk result (self.new ≡ extended self.old statement) }
     {
         match statement {
-            Statement::Declaration(declaration) => self.declare(declaration),
-            Statement::Rule(rule) => self.set(alloc, &rule),
+            Statement::Declaration(declaration) => self.add_field(declaration),
+            Statement::Rule(rule) => self.add_rule(alloc, &rule),
         }
     }
 
@@ -107,7 +107,7 @@ impl Draft {
             &statement,
         )? {
             Some(kind) => Err(RulesFault::At { line: number, kind }),
-            None => Ok(self.extend(alloc, statement)?),
+            None => Ok(self.add_statement(alloc, statement)?),
         }
     }
 
@@ -123,7 +123,7 @@ impl Draft {
         ensures adds { OnOk result (Adds line.now self.old self.new) }
         ensures fault { IfErr result (λ fault. IsFaultOfLine line.now self.old number fault) }
     {
-        let text = read_part(line);
+        let text = part_to_read(line);
         if has_bad_byte(text) {
             return Err(RulesFault::At {
                 line: number,

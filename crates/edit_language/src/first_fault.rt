@@ -120,7 +120,7 @@ fn has_rule_known_codes(fields: &[Field], rule: &RuleText) -> bool
 }
 
 // Whether a code stands twice in the list of one of these tests.
-fn have_double_codes(alloc: Global, tests: &[TestText]) -> Result<bool, OutOfMemory>
+fn any_double_code(alloc: Global, tests: &[TestText]) -> Result<bool, OutOfMemory>
     ensures { IfOk result (λ double. double ≡ list_any has_double_code tests.now) }
 {
     for test in tests {
@@ -135,7 +135,7 @@ fn have_double_codes(alloc: Global, tests: &[TestText]) -> Result<bool, OutOfMem
 fn has_rule_double_code(alloc: Global, rule: &RuleText) -> Result<bool, OutOfMemory>
     ensures { IfOk result (λ double. double ≡ list_any has_double_code (tests_of rule.now)) }
 {
-    if have_double_codes(alloc, rule.conditions.as_slice())? {
+    if any_double_code(alloc, rule.conditions.as_slice())? {
         return Ok(true);
     }
     has_double_code(alloc, &rule.conclusion)
@@ -153,7 +153,7 @@ fn is_large_test(fields: &[Field], test: &TestText) -> bool
 }
 
 // Whether a number of any of these tests, or what its terms add up to, is out of its limits.
-fn are_large_tests(fields: &[Field], tests: &[TestText]) -> bool
+fn any_large_test(fields: &[Field], tests: &[TestText]) -> bool
     ensures { result ≡ list_any (λ t. is_large_test fields.now t) tests.now }
 {
     tests.iter().any(|test| is_large_test(fields, test))
@@ -163,7 +163,7 @@ fn are_large_tests(fields: &[Field], tests: &[TestText]) -> bool
 fn is_large_rule(fields: &[Field], rule: &RuleText) -> bool
     ensures { result ≡ list_any (λ t. is_large_test fields.now t) (tests_of rule.now) }
 {
-    are_large_tests(fields, rule.conditions.as_slice()) || is_large_test(fields, &rule.conclusion)
+    any_large_test(fields, rule.conditions.as_slice()) || is_large_test(fields, &rule.conclusion)
 }
 
 // Whether the test is a number test, which compares two sums, and no code test.
@@ -174,7 +174,7 @@ fn is_sums(test: &TestText) -> bool
 }
 
 // Whether at least one of these tests is a number test.
-fn are_sums(tests: &[TestText]) -> bool
+fn any_number_test(tests: &[TestText]) -> bool
     ensures { result ≡ list_any is_sums tests.now }
 {
     tests.iter().any(|test| is_sums(test))
@@ -194,7 +194,7 @@ fn is_equation(test: &TestText) -> bool
 }
 
 // Whether at least one of these tests is a number test that compares with `=`.
-fn are_equations(tests: &[TestText]) -> bool
+fn any_equation(tests: &[TestText]) -> bool
     ensures { result ≡ list_any is_equation tests.now }
 {
     tests.iter().any(|test| is_equation(test))
@@ -206,8 +206,8 @@ fn has_form(rule: &RuleText) -> bool
     ensures { result ≡ has_rule_form rule.now }
 {
     let conditions = rule.conditions.as_slice();
-    !are_sums(conditions)
-        || (conditions.len() == 1 && !are_equations(conditions) && !is_sums(&rule.conclusion))
+    !any_number_test(conditions)
+        || (conditions.len() == 1 && !any_equation(conditions) && !is_sums(&rule.conclusion))
 }
 
 // The least kind of fault of `rule` after these fields and rules, or None where it has none. The kinds are

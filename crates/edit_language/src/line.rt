@@ -60,7 +60,7 @@ fn before_comment(line: &[u8]) -> &[u8]
 
 /// What of a line is read as a statement: the line without the carriage return at its end, and without its
 /// comment.
-pub(crate) fn read_part(line: &[u8]) -> &[u8]
+pub(crate) fn part_to_read(line: &[u8]) -> &[u8]
     ensures { result.now ≡ read_part line.now }
 {
     before_comment(without_return(line))

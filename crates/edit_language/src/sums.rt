@@ -37,7 +37,7 @@ fn is_large_term(term: &TermText) -> bool
 }
 
 // Whether the number of any of these terms is no whole number, or above its limit (`is_large_term`).
-fn are_large_terms(terms: &[SignedTerm]) -> bool
+fn any_large_term(terms: &[SignedTerm]) -> bool
     ensures { result ≡ list_any (λ t. is_large_term t.term) terms.now }
 {
     terms.iter().any(|signed| is_large_term(&signed.term))
@@ -47,7 +47,7 @@ fn are_large_terms(terms: &[SignedTerm]) -> bool
 fn is_large_sum(sum: &SumText) -> bool
     ensures { result ≡ is_large_sum sum.now }
 {
-    is_large_term(&sum.first) || are_large_terms(sum.rest.as_slice())
+    is_large_term(&sum.first) || any_large_term(sum.rest.as_slice())
 }
 
 // What a term, without its sign, adds to the factor of the field with this name: 0 where it is a constant
@@ -110,7 +110,7 @@ fn signed_number(sign: Sign, number: u64) -> i128
 
 // What these terms, with their signs, add to the factor of the field with this name, or to the constant
 // where no name is given. Each adds at most 10^15.
-fn parts_added(name: Option<&Name>, terms: &[SignedTerm]) -> i128
+fn terms_total(name: Option<&Name>, terms: &[SignedTerm]) -> i128
     requires { list_any (λ t. is_large_term t.term) terms.now ≡ false }
     ensures value { result ≡ parts_added (option_map (λ n. n.now) name.entry) terms.now }
     ensures size { unsigned_abs result ≤ 10 ^ 15 * length terms.now }
@@ -125,26 +125,26 @@ fn parts_added(name: Option<&Name>, terms: &[SignedTerm]) -> i128
 // What all terms of a sum add to the factor of the field with this name, or to the constant where no name
 // is given. A sum without a sign in front begins with a plus. It has fewer than 2^64 terms of at most
 // 10^15, so the total stays in range.
-fn sum_added(name: Option<&Name>, sum: &SumText) -> i128
+fn sum_total(name: Option<&Name>, sum: &SumText) -> i128
     requires { is_large_sum sum.now ≡ false }
     ensures value { result ≡ parts_added (option_map (λ n. n.now) name.entry) (terms_of sum.now) }
     ensures size { unsigned_abs result ≤ 10 ^ 15 + 10 ^ 15 * 2 ^ 64 }
 {
     let sign = sum.sign.unwrap_or(Sign::Plus);
     let first = signed_number(sign, part_in(name, &sum.first));
-    let rest = parts_added(name, sum.rest.as_slice());
+    let rest = terms_total(name, sum.rest.as_slice());
     first + rest
 }
 
 // What the left side adds to the factor of the field with this `name`, less what the right side adds to
 // it. Where no name is given, the same of the constant.
-fn parts_moved(name: Option<&Name>, left: &SumText, right: &SumText) -> i128
+fn moved_total(name: Option<&Name>, left: &SumText, right: &SumText) -> i128
     requires left { is_large_sum left.now ≡ false }
     requires right { is_large_sum right.now ≡ false }
     ensures { result ≡ parts_moved (option_map (λ n. n.now) name.entry) left.now right.now }
 {
-    let taken = sum_added(name, right);
-    sum_added(name, left) - taken
+    let taken = sum_total(name, right);
+    sum_total(name, left) - taken
 }
 
 // The factor of the field with this `name` on the left side, less that on the right side.
@@ -153,7 +153,7 @@ fn moved_factor(left: &SumText, right: &SumText, name: &Name) -> i128
     requires right { is_large_sum right.now ≡ false }
     ensures { result ≡ moved_factor left.now right.now name.now }
 {
-    parts_moved(Some(name), left, right)
+    moved_total(Some(name), left, right)
 }
 
 // The constant of the left side, less that of the right side.
@@ -162,7 +162,7 @@ fn moved_constant(left: &SumText, right: &SumText) -> i128
     requires right { is_large_sum right.now ≡ false }
     ensures { result ≡ moved_constant left.now right.now }
 {
-    parts_moved(None, left, right)
+    moved_total(None, left, right)
 }
 
 // Whether the factor of the field with this `name` is above `MOST_FACTOR`, in absolute value, once both sides
@@ -177,7 +177,7 @@ fn is_large_factor(left: &SumText, right: &SumText, name: &Name) -> bool
 
 // Whether the factor of any of these fields is above `MOST_FACTOR`, in absolute value, once both sides are
 // added up.
-fn are_large_factors(fields: &[Field], left: &SumText, right: &SumText) -> bool
+fn any_large_factor(fields: &[Field], left: &SumText, right: &SumText) -> bool
     requires left { is_large_sum left.now ≡ false }
     requires right { is_large_sum right.now ≡ false }
     ensures { result ≡ has_large_factor fields.now left.now right.now }
@@ -207,7 +207,7 @@ pub(crate) fn are_large_sums(fields: &[Field], left: &SumText, right: &SumText) 
 {
     is_large_sum(left)
         || is_large_sum(right)
-        || are_large_factors(fields, left, right)
+        || any_large_factor(fields, left, right)
         || is_large_constant(left, right)
 }
 

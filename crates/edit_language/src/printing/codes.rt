@@ -7,12 +7,12 @@ use edit_model::Name;
 use foundation::OutOfMemory;
 
 // Appends all codes of the list, as `{x, y}`, for the declaration of a field.
-pub(super) fn write_all(text: &mut Vec<u8>, list: &[Name]) -> Result<(), OutOfMemory>
+pub(super) fn write_codes(text: &mut Vec<u8>, list: &[Name]) -> Result<(), OutOfMemory>
     ensures { OnOk result (text.new.items ≡ text.old.items ++ braced list.now) }
 {
     text.push(b'{')?;
     for (i, code) in list.iter().enumerate() {
-        write_item(text, i == 0, code)?;
+        write_code(text, i == 0, code)?;
     }
     text.push(b'}')?;
     Ok(())
@@ -26,8 +26,8 @@ pub(super) fn write_set(text: &mut Vec<u8>, list: &[Name], set: u64) -> Result<(
     text.push(b'{')?;
     let mut first = true;
     for (i, code) in list.iter().enumerate() {
-        if is_in(set, i) {
-            write_item(text, first, code)?;
+        if has_code(set, i) {
+            write_code(text, first, code)?;
             first = false;
         }
     }
@@ -36,7 +36,7 @@ pub(super) fn write_set(text: &mut Vec<u8>, list: &[Name], set: u64) -> Result<(
 }
 
 // Appends a code, and a comma before it unless it is the first that is printed.
-fn write_item(text: &mut Vec<u8>, first: bool, code: &Name) -> Result<(), OutOfMemory>
+fn write_code(text: &mut Vec<u8>, first: bool, code: &Name) -> Result<(), OutOfMemory>
     ensures { OnOk result (text.new.items ≡ text.old.items ++ (if first then [] else codes ", ") ++ code.now) }
 {
     if !first {
@@ -47,7 +47,7 @@ fn write_item(text: &mut Vec<u8>, first: bool, code: &Name) -> Result<(), OutOfM
 }
 
 // Whether the set, as bits, has the code of this number. From 64 on it has none.
-fn is_in(set: u64, code: usize) -> bool
+fn has_code(set: u64, code: usize) -> bool
     ensures { result ≡ (bit_at set code == 1) }
 {
     code < 64 && (set >> code) & 1 == 1

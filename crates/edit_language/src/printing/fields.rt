@@ -2,7 +2,7 @@
 ghost use Rattle.std.specs.Prelude.{◌≡◌, ◌++◌, OnOk};
 ghost use Rattle.edit_language.specs.Printing.{field_line, kind_text, kind_word};
 
-use super::codes::write_all;
+use super::codes::write_codes;
 use super::sums::write_number;
 use edit_model::{Field, Kind};
 use foundation::OutOfMemory;
@@ -41,7 +41,7 @@ fn write_kind(text: &mut Vec<u8>, kind: &Kind) -> Result<(), OutOfMemory>
         }
         Kind::Code { codes } => {
             text.extend_from_slice(b" in ")?;
-            write_all(text, codes.as_slice())
+            write_codes(text, codes.as_slice())
         }
     }
 }

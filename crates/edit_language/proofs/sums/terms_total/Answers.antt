@@ -7,7 +7,7 @@ use Rattle.edit_language.specs.Faults.{is_large_term}
 use Rattle.edit_language.specs.Meaning.{signed}
 use Rattle.edit_language.proofs.FieldLaws.{fails_at}
 use Rattle.edit_language.proofs.SumLaws.{parts_more, size_more, sum_fits}
-use Rattle.edit_language.proofs.sums.parts_added.Goals as goal
+use Rattle.edit_language.proofs.sums.terms_total.Goals as goal
 
 pub part_in-requires : goal.part_in-requires
 part_in-requires c =

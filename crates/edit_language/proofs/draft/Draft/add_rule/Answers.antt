@@ -3,7 +3,7 @@ use Rattle.edit_model.specs.Parts.{SurveyParts, survey_of}
 use Rattle.rule_grammar.specs.declared.statement.Statement.TheVariants as statement
 use Rattle.edit_language.specs.inner.FirstFault.{rule_fault}
 use Rattle.edit_language.proofs.SurveyLaws.{extended_well_formed}
-use Rattle.edit_language.proofs.draft.Draft.set.Goals as goal
+use Rattle.edit_language.proofs.draft.Draft.add_rule.Goals as goal
 
 pub invariant_of-self-2 : goal.invariant_of-self-2
 invariant_of-self-2 c =
