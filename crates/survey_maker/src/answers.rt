@@ -22,7 +22,7 @@ pub(crate) enum Answer {
 impl Answer {
     // A right answer with a slip: it is left out where `is_left_out` says so, and else ten times the
     // number and 1 more. An answer that has a slip already stays as it is.
-    fn slipped(self, is_left_out: bool) -> Answer
+    fn with_slip(self, is_left_out: bool) -> Answer
         ensures { result ≡ slipped is_left_out self }
     {
         match self {
@@ -61,7 +61,7 @@ pub(crate) fn draw_answers(right: [Answer; 12], generator: &mut Generator) -> [A
     if generator.draw(4) == 0 {
         let field = generator.draw(12) as usize;
         let is_left_out = generator.draw(2) == 0;
-        answers[field] = right[field].slipped(is_left_out);
+        answers[field] = right[field].with_slip(is_left_out);
     }
     answers
 }

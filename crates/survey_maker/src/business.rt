@@ -41,7 +41,7 @@ impl Business {
         ensures drawn { result ≡ business_at generator.old }
         ensures state { generator.new ≡ state_after 11 generator.old }
     {
-        let size = Size::numbered(generator.draw(4));
+        let size = Size::of_number(generator.draw(4));
         let staff = size.least_staff() + generator.draw(size.staff_numbers());
         let part = generator.draw(staff + 1);
         let goods = 10 * generator.draw(1000);
@@ -52,8 +52,8 @@ impl Business {
         let costs = goods + bought + wages + social + other;
         let profit = generator.draw(costs / 4 + 1);
         let invest = generator.draw(40);
-        let activity = Activity::numbered(generator.draw(4));
-        let region = Region::numbered(generator.draw(4));
+        let activity = Activity::of_number(generator.draw(4));
+        let region = Region::of_number(generator.draw(4));
         let form = form_of(size, generator.draw(2) == 0);
         Business {
             turnover: costs + profit,

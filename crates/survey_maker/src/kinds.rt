@@ -15,7 +15,7 @@ pub(crate) enum Activity {
 
 impl Activity {
     /// The activity of this number, from 0, in the order of the field's codes.
-    pub(crate) fn numbered(number: u32) -> Activity
+    pub(crate) fn of_number(number: u32) -> Activity
         requires { number < 4 }
         ensures { result ≡ slice_index_or activities number Service }
     {
@@ -51,7 +51,7 @@ pub(crate) enum Region {
 
 impl Region {
     /// The region of this number, from 0, in the order of the field's codes.
-    pub(crate) fn numbered(number: u32) -> Region
+    pub(crate) fn of_number(number: u32) -> Region
         requires { number < 4 }
         ensures { result ≡ slice_index_or regions number West }
     {

@@ -14,7 +14,7 @@ pub(crate) enum Size {
 
 impl Size {
     /// The size class of this number, from 0, in the order of the field's codes.
-    pub(crate) fn numbered(number: u32) -> Size
+    pub(crate) fn of_number(number: u32) -> Size
         requires { number < 4 }
         ensures { result ≡ slice_index_or sizes number Large }
     {

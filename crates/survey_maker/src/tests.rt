@@ -48,7 +48,7 @@ const FILES: &[(u32, u32, &[u8])] = &[
 
 /// Makes each record file of the table, from its start and its number of rows, and compares it with the
 /// file that stands behind them, byte for byte. The test ends at the first that differs.
-fn tell_files(rt: &impl Abort, alloc: Global, cases: &[(u32, u32, &[u8])]) -> Result<(), Fail> {
+fn compare_files(rt: &impl Abort, alloc: Global, cases: &[(u32, u32, &[u8])]) -> Result<(), Fail> {
     for (start, rows, file) in cases {
         let text = records_text(alloc, *start, *rows)?;
         assert_eq!(rt; text.as_slice(), *file, "from {start}");
@@ -59,7 +59,7 @@ fn tell_files(rt: &impl Abort, alloc: Global, cases: &[(u32, u32, &[u8])]) -> Re
 // Record files from four numbers to start from, compared byte for byte.
 #[test]
 fn rows_follow_from_the_number_to_start_from(rt: HostRuntime) -> Result<(), Fail> {
-    tell_files(&rt, rt.alloc(), FILES)
+    compare_files(&rt, rt.alloc(), FILES)
 }
 
 /// The survey in other words: rules as one would write them.
