@@ -95,7 +95,7 @@ fn can_try(row: &Row, rule: &Rule) -> bool
 
 // The number that is the numerator over the denominator, in lowest terms. It is Bad for the denominator 0
 // and for -2^127, which `Fraction::reduced` does not take.
-fn number(numerator: i128, denominator: u32) -> Value {
+fn number_value(numerator: i128, denominator: u32) -> Value {
     if denominator == 0 || numerator == i128::MIN {
         return Value::Bad;
     }
@@ -105,8 +105,10 @@ fn number(numerator: i128, denominator: u32) -> Value {
 // The value that a table's plan stands for. A plan with the denominator 0 gives Bad.
 fn value_of(plan: ValuePlan) -> Value {
     match plan {
-        ValuePlan::Number(numerator, denominator) => number(i128::from(numerator), denominator),
-        ValuePlan::Greatest(denominator) => number(i128::MAX, denominator),
+        ValuePlan::Number(numerator, denominator) => {
+            number_value(i128::from(numerator), denominator)
+        }
+        ValuePlan::Greatest(denominator) => number_value(i128::MAX, denominator),
         ValuePlan::Code(code) => Value::Code(code),
         ValuePlan::Bad => Value::Bad,
     }
@@ -137,7 +139,7 @@ fn a_record_gives_its_values_and_a_copy_of_itself(rt: HostRuntime) -> Result<(),
     let survey = read_rules(alloc, RULES)?;
     let row = row_of(&rt, alloc, &survey, [Number(14, 6), Bad, Code(1)])?;
     let copy = row.copy(alloc)?;
-    assert!(rt; copy.values() == [number(7, 3), Value::Bad, Value::Code(1)].as_slice());
+    assert!(rt; copy.values() == [number_value(7, 3), Value::Bad, Value::Code(1)].as_slice());
     assert!(rt; row.value(1).is_bad() && !row.value(2).is_bad());
     Ok(())
 }
@@ -174,7 +176,7 @@ fn answer_of(rt: &impl Abort, row: &Row, rule: &Rule) -> Option<bool> {
 }
 
 /// Asks whether each rule of the cases holds at its record, and compares the answer with the case's.
-fn answer_rules(
+fn compare_answers(
     rt: &impl Abort,
     alloc: Global,
     cases: &[(usize, [ValuePlan; 3], Option<bool>)],
@@ -192,5 +194,5 @@ fn answer_rules(
 // the range.
 #[test]
 fn a_rule_holds_exactly_where_it_is_true(rt: HostRuntime) -> Result<(), Fail> {
-    answer_rules(&rt, rt.alloc(), &CASES)
+    compare_answers(&rt, rt.alloc(), &CASES)
 }

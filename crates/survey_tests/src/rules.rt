@@ -8,7 +8,7 @@ use std::test::Fail;
 
 /// The survey of a rule text, or inside the answer why it has none. A text of 2^32 bytes or more ends the
 /// test, since `read_rules` asks for fewer.
-fn read(alloc: Global, text: &[u8]) -> Result<Result<Survey, RulesFault>, Fail> {
+fn survey_in(alloc: Global, text: &[u8]) -> Result<Result<Survey, RulesFault>, Fail> {
     if text.len() >= 1 << 32 {
         return Err(Fail::from("a long text"));
     }
@@ -18,7 +18,7 @@ fn read(alloc: Global, text: &[u8]) -> Result<Result<Survey, RulesFault>, Fail> 
 /// The line, from 1, and the number of the kind, from 1 to 9, of the text's first fault. Both are 0 where it
 /// has none. Want of memory ends the test.
 fn first_fault(alloc: Global, text: &[u8]) -> Result<(u32, u8), Fail> {
-    match read(alloc, text)? {
+    match survey_in(alloc, text)? {
         Ok(_) => Ok((0, 0)),
         Err(RulesFault::At { line, kind }) => Ok((line, kind.number())),
         Err(RulesFault::OutOfMemory) => Err(Fail::from("out of memory")),
@@ -27,7 +27,7 @@ fn first_fault(alloc: Global, text: &[u8]) -> Result<(u32, u8), Fail> {
 
 /// Reads the text of each case, and asserts that its first fault has the line and the kind's number that
 /// stand behind it.
-fn tell_faults(rt: &impl Abort, alloc: Global, cases: &[(&[u8], u32, u8)]) -> Result<(), Fail> {
+fn compare_faults(rt: &impl Abort, alloc: Global, cases: &[(&[u8], u32, u8)]) -> Result<(), Fail> {
     for (text, line, kind) in cases {
         assert_eq!(rt; first_fault(alloc, text)?, (*line, *kind), "at {text:?}");
     }
@@ -38,7 +38,7 @@ fn tell_faults(rt: &impl Abort, alloc: Global, cases: &[(&[u8], u32, u8)]) -> Re
 // nothing.
 #[test]
 fn the_least_kind_of_the_first_faulty_line_is_told(rt: HostRuntime) -> Result<(), Fail> {
-    tell_faults(
+    compare_faults(
         &rt,
         rt.alloc(),
         &[
@@ -71,7 +71,7 @@ fn the_least_kind_of_the_first_faulty_line_is_told(rt: HostRuntime) -> Result<()
 // The example of docs/rule-language.md, and how it is printed there.
 #[test]
 fn the_example_of_the_language_is_read_and_printed(rt: HostRuntime) -> Result<(), Fail> {
-    let survey = read(
+    let survey = survey_in(
         rt.alloc(),
         b"number Turnover weight 2 scale 1000     # the price of changing it, and the unit of distances
 number Costs

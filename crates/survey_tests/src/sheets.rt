@@ -9,7 +9,7 @@ use std::slice;
 use std::test::Fail;
 
 /// The survey of the fields `A`, which is numerical, and `Size`, of the codes `s` and `M.1`.
-fn two_fields(alloc: Global) -> Result<Survey, Fail> {
+fn survey_of_two_fields(alloc: Global) -> Result<Survey, Fail> {
     Ok(read_rules(alloc, b"number A\ncode Size in {s, M.1}\n")?)
 }
 
@@ -33,7 +33,7 @@ fn value_text(alloc: Global, value: &Value) -> Result<Vec<u8>, Fail> {
 
 /// What a sheet has, as a text that a test compares. It has the texts of the header, and the texts and
 /// values of each row, a line each.
-fn shown(alloc: Global, sheet: &Sheet) -> Result<Vec<u8>, Fail> {
+fn sheet_text(alloc: Global, sheet: &Sheet) -> Result<Vec<u8>, Fail> {
     let mut shown = Vec::new(alloc);
     show_texts(&mut shown, sheet.header())?;
     for row_no in 0..sheet.len() {
@@ -51,14 +51,14 @@ fn shown(alloc: Global, sheet: &Sheet) -> Result<Vec<u8>, Fail> {
 // what its sheet has.
 #[test]
 fn a_sheet_has_the_texts_and_the_values_of_its_rows(rt: HostRuntime) -> Result<(), Fail> {
-    let survey = two_fields(rt.alloc())?;
+    let survey = survey_of_two_fields(rt.alloc())?;
     let file = "\u{FEFF}\u{FEFF}Size,\"no, te\",\tA \r\n s\t,\"say \"\"hi\"\"\",007.50\r\n\r\n\
         M.1,,-3/4\nS,,.5\n,,1/0\ns,,+7.\ns,,1234567890123456\ns,,0.1234567\ns,,1e3\n\
         s,,999999999999999999999/1000000\ns,,1/1000001\ns,,\"1,0\"";
     let sheet = read_records(rt.alloc(), &survey, file.as_bytes())?;
     assert_eq!(rt; sheet.columns(), [2, 0].as_slice());
     assert_eq!(rt;
-        shown(rt.alloc(), &sheet)?.as_slice(),
+        sheet_text(rt.alloc(), &sheet)?.as_slice(),
         b"Size|no, te|\tA |\n s\t|say \"hi\"|007.50| 15/2 #0\nM.1||-3/4| -3/4 #1\nS||.5| 1/2 bad\n\
         ||1/0| bad bad\ns||+7.| 7 #0\ns||1234567890123456| bad #0\ns||0.1234567| bad #0\ns||1e3| bad #0\n\
         s||999999999999999999999/1000000| 999999999999999999999/1000000 #0\ns||1/1000001| bad #0\ns||1,0| bad #0"
@@ -71,7 +71,7 @@ fn a_sheet_has_the_texts_and_the_values_of_its_rows(rt: HostRuntime) -> Result<(
 
 /// Reads each file of the table as records of the survey, and compares its fault with the table's. A file
 /// that is read without a fault ends the test.
-fn tell_faults(
+fn compare_faults(
     rt: &impl Abort,
     alloc: Global,
     survey: &Survey,
@@ -89,10 +89,10 @@ fn tell_faults(
 // Each fault but that of too many rows. Where a file has several, the first is told.
 #[test]
 fn the_first_fault_is_told(rt: HostRuntime) -> Result<(), Fail> {
-    tell_faults(
+    compare_faults(
         &rt,
         rt.alloc(),
-        &two_fields(rt.alloc())?,
+        &survey_of_two_fields(rt.alloc())?,
         &[
             ("\u{FEFF}\n\r\n\r", SheetFault::NoHeader),
             (

@@ -18,7 +18,7 @@ fn word_for(alloc: Global, text: &str) -> Result<&'static str, Fail> {
 
 /// Reads each line of the table, and compares what it is with the word behind it. The test ends at the first
 /// that differs.
-fn tell_lines(rt: &impl Abort, alloc: Global, cases: &[(&str, &str)]) -> Result<(), Fail> {
+fn compare_lines(rt: &impl Abort, alloc: Global, cases: &[(&str, &str)]) -> Result<(), Fail> {
     for (text, word) in cases {
         assert_eq!(rt; word_for(alloc, text)?, *word, "at {text:?}");
     }
@@ -28,7 +28,7 @@ fn tell_lines(rt: &impl Abort, alloc: Global, cases: &[(&str, &str)]) -> Result<
 // Lines with what each is, of both kinds of declaration and of rules, and near misses of these.
 #[test]
 fn a_line_is_a_statement_or_unreadable(rt: HostRuntime) -> Result<(), Fail> {
-    tell_lines(
+    compare_lines(
         &rt,
         rt.alloc(),
         &[

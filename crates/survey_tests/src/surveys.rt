@@ -7,7 +7,7 @@ use std::test::Fail;
 
 /// A survey of `count` fields that all have one name of 32 bytes, or inside the answer why they make none.
 /// The outer fault is want of memory, which ends the test.
-fn fields_of_one_name(alloc: Global, count: usize) -> Result<Result<Survey, SurveyFault>, Fail> {
+fn survey_of_one_name(alloc: Global, count: usize) -> Result<Result<Survey, SurveyFault>, Fail> {
     let mut fields = Vec::new(alloc);
     for _ in 0..count {
         fields.push(Field {
@@ -22,9 +22,9 @@ fn fields_of_one_name(alloc: Global, count: usize) -> Result<Result<Survey, Surv
 // One field has the name and is found; two fields with it make no survey. A name has 32 bytes at most.
 #[test]
 fn a_name_is_declared_once(rt: HostRuntime) -> Result<(), Fail> {
-    let survey = fields_of_one_name(rt.alloc(), 1)?.ok().ok_or("a survey")?;
+    let survey = survey_of_one_name(rt.alloc(), 1)?.ok().ok_or("a survey")?;
     assert_eq!(rt; survey.find(b"abcdefghijklmnopqrstuvwxyz012345"), Some(0));
-    let two = fields_of_one_name(rt.alloc(), 2)?;
+    let two = survey_of_one_name(rt.alloc(), 2)?;
     assert!(rt; matches!(two, Err(SurveyFault::Malformed)));
     assert!(rt; Name::new(b"abcdefghijklmnopqrstuvwxyz0123456").is_none());
     Ok(())
@@ -32,7 +32,7 @@ fn a_name_is_declared_once(rt: HostRuntime) -> Result<(), Fail> {
 
 /// A survey of one numerical field of this weight, or inside the answer why it makes none. The outer fault
 /// is want of memory, which ends the test.
-fn number_of_weight(alloc: Global, weight: u32) -> Result<Result<Survey, SurveyFault>, Fail> {
+fn survey_of_weight(alloc: Global, weight: u32) -> Result<Result<Survey, SurveyFault>, Fail> {
     let mut fields = Vec::new(alloc);
     fields.push(Field {
         name: Name::new(b"A").ok_or("a name of one byte")?,
@@ -45,12 +45,12 @@ fn number_of_weight(alloc: Global, weight: u32) -> Result<Result<Survey, SurveyF
 // The weights 1 and 1000 make a survey, and those beside them none.
 #[test]
 fn a_weight_is_from_1_to_1000(rt: HostRuntime) -> Result<(), Fail> {
-    let none = number_of_weight(rt.alloc(), 0)?;
+    let none = survey_of_weight(rt.alloc(), 0)?;
     assert!(rt; matches!(none, Err(SurveyFault::Malformed)));
-    let least = number_of_weight(rt.alloc(), 1)?;
-    let greatest = number_of_weight(rt.alloc(), 1000)?;
+    let least = survey_of_weight(rt.alloc(), 1)?;
+    let greatest = survey_of_weight(rt.alloc(), 1000)?;
     assert!(rt; least.is_ok() && greatest.is_ok());
-    let beyond = number_of_weight(rt.alloc(), 1001)?;
+    let beyond = survey_of_weight(rt.alloc(), 1001)?;
     assert!(rt; matches!(beyond, Err(SurveyFault::Malformed)));
     Ok(())
 }
