@@ -9,7 +9,7 @@ ghost use Rattle.command_words.specs.FileNames.{AreApart};
 ghost use Rattle.command_words.specs.inner.Found.{rows_in};
 
 use crate::file_names::{is_apart_from, lead_to_one};
-use crate::options::{command_named, found_in, text_in, with_required, words_behind};
+use crate::options::{command_named, match_words, text_in, with_required, words_behind};
 use clap::{ArgMatches, Command};
 use foundation::OutOfMemory;
 use std::alloc::Global;
@@ -52,7 +52,7 @@ pub fn check_asked<'a>(
     let Some(others) = words_behind("check", words) else {
         return Ok(None);
     };
-    let Some(found) = found_in(command(alloc)?, others)? else {
+    let Some(found) = match_words(command(alloc)?, others)? else {
         return Ok(None);
     };
     Ok(check_of(&found))

@@ -9,7 +9,7 @@ ghost use Rattle.command_words.specs.Asked.{ClassedAsked, GivesClassed, IsClasse
 ghost use Rattle.command_words.specs.inner.Found.{rows_in};
 
 use crate::edit_words::{EditWords, edit_command_named, edit_of};
-use crate::options::{found_in, text_in, with_required, words_behind};
+use crate::options::{match_words, text_in, with_required, words_behind};
 use clap::{ArgMatches, Command};
 use foundation::OutOfMemory;
 use std::alloc::Global;
@@ -50,7 +50,7 @@ pub fn classed_asked<'a>(
     let Some(others) = words_behind("classed", words) else {
         return Ok(None);
     };
-    let Some(found) = found_in(command(alloc)?, others)? else {
+    let Some(found) = match_words(command(alloc)?, others)? else {
         return Ok(None);
     };
     Ok(classed_of(&found))

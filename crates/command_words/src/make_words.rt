@@ -10,7 +10,7 @@ ghost use Rattle.command_words.specs.inner.Found.{rows_in};
 
 use crate::file_names::lead_to_one;
 use crate::options::{
-    command_named, found_in, number_in, text_in, with_optional, with_required, words_behind,
+    command_named, match_words, number_in, text_in, with_optional, with_required, words_behind,
 };
 use clap::{ArgMatches, Command};
 use foundation::OutOfMemory;
@@ -76,7 +76,7 @@ pub fn make_asked<'a>(
     let Some(others) = words_behind("make", words) else {
         return Ok(None);
     };
-    let Some(found) = found_in(command(alloc)?, others)? else {
+    let Some(found) = match_words(command(alloc)?, others)? else {
         return Ok(None);
     };
     Ok(make_of(&found))

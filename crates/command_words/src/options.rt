@@ -100,7 +100,7 @@ pub(crate) fn words_behind<'a>(name: &str, words: &'a [String]) -> Option<&'a [S
 /// What `clap` finds in the words behind the name of the command. None where it does not take them: an
 /// option is unknown, say, or one is left out that has to stand. `is_simple_and_free` says that no option
 /// has a rule on another, nor anything else that `clap`'s contracts leave open. Each command here is so.
-pub(crate) fn found_in<'a>(
+pub(crate) fn match_words<'a>(
     command: Command<'a>,
     words: &'a [String],
 ) -> Result<Option<ArgMatches<'a>>, OutOfMemory>

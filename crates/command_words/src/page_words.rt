@@ -8,7 +8,7 @@ ghost use Rattle.command_words.specs.Asked.{PageAsked, GivesPage, IsPage, page_c
 ghost use Rattle.command_words.specs.inner.Found.{rows_in};
 
 use crate::edit_words::are_apart;
-use crate::options::{command_named, found_in, text_in, with_required, words_behind};
+use crate::options::{command_named, match_words, text_in, with_required, words_behind};
 use clap::{ArgMatches, Command};
 use foundation::OutOfMemory;
 use std::alloc::Global;
@@ -63,7 +63,7 @@ pub fn page_asked<'a>(
     let Some(others) = words_behind("page", words) else {
         return Ok(None);
     };
-    let Some(found) = found_in(command(alloc)?, others)? else {
+    let Some(found) = match_words(command(alloc)?, others)? else {
         return Ok(None);
     };
     Ok(page_of(&found))

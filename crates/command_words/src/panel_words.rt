@@ -11,8 +11,8 @@ ghost use Rattle.command_words.specs.inner.Found.{rows_in};
 
 use crate::file_names::{is_apart_from, lead_to_one};
 use crate::options::{
-    BUDGET, LEAST_BUDGET, MOST_BUDGET, command_named, found_in, number_in, text_in, with_optional,
-    with_required, words_behind,
+    BUDGET, LEAST_BUDGET, MOST_BUDGET, command_named, match_words, number_in, text_in,
+    with_optional, with_required, words_behind,
 };
 use clap::{ArgMatches, Command};
 use foundation::OutOfMemory;
@@ -82,7 +82,7 @@ pub fn panel_asked<'a>(
     let Some(others) = words_behind("panel", words) else {
         return Ok(None);
     };
-    let Some(found) = found_in(command(alloc)?, others)? else {
+    let Some(found) = match_words(command(alloc)?, others)? else {
         return Ok(None);
     };
     Ok(panel_of(&found))

@@ -7,7 +7,7 @@ ghost use Rattle.clap.specs.Words.{app_of};
 ghost use Rattle.command_words.specs.Asked.{GivesRules, IsRules, RulesAsked, rules_command};
 ghost use Rattle.command_words.specs.inner.Found.{rows_in};
 
-use crate::options::{command_named, found_in, text_in, with_required, words_behind};
+use crate::options::{command_named, match_words, text_in, with_required, words_behind};
 use clap::{ArgMatches, Command};
 use foundation::OutOfMemory;
 use std::alloc::Global;
@@ -43,7 +43,7 @@ pub fn rules_asked<'a>(
     let Some(others) = words_behind("rules", words) else {
         return Ok(None);
     };
-    let Some(found) = found_in(command(alloc)?, others)? else {
+    let Some(found) = match_words(command(alloc)?, others)? else {
         return Ok(None);
     };
     Ok(rules_of(&found))

@@ -5,8 +5,8 @@ use Rattle.command_words.proofs.AskedLaws.{asked_by, found_by, if_none, if_some,
 use Rattle.command_words.proofs.CommandLaws.{check_simple}
 use Rattle.command_words.proofs.check_words.check_asked.Goals as goal
 
-pub found_in-requires : goal.found_in-requires
-found_in-requires c = ap is_simple_and_free c.in_ok-command.ensures ∙ check_simple
+pub match_words-requires : goal.match_words-requires
+match_words-requires c = ap is_simple_and_free c.in_ok-command.ensures ∙ check_simple
 
 pub returns-in_default-clause-none : goal.returns-in_default-clause-none
 returns-in_default-clause-none c = λ asked. not_named check_command _ (λ rows. GivesCheck rows asked) c.in_default.ensures.none

@@ -1,6 +1,6 @@
 use Rattle.std.proofs.Common.{sym}
 use Rattle.command_words.proofs.FoundLaws.{both_left}
-use Rattle.command_words.proofs.options.found_in.Goals as goal
+use Rattle.command_words.proofs.options.match_words.Goals as goal
 
 pub returns-in-Ok-clause-some : goal.returns-in-Ok-clause-some
 returns-in-Ok-clause-some c = record {
