@@ -126,7 +126,7 @@ is_outside limit None = false
 is_outside limit (Some (numeral.Whole n)) = nat_lt n 1 || nat_lt limit n
 is_outside limit (Some numeral.OutOfRange) = true
 
--- a factor is at most 10^9, a constant at most 10^15
+-- whether the number of a term is no whole number, or above its limit: 10^9 for a factor, 10^15 for a constant
 abbrev pub is_large_term : TermText → Bool
 is_large_term (term.Product factor times field) = is_above most_factor factor
 is_large_term (term.Field field) = false

@@ -50,13 +50,13 @@ signed sign.Minus n = neg_ℤ (pos n)
 
 -- ---- linear tests: everything is moved to the left side
 
--- how often a term takes the field of this name
+-- the factor that a term gives the field of this name; 0 where it is another field's, or a constant
 abbrev pub factor_in : List ℕ → TermText → ℕ
 factor_in name (term.Product factor times field) = if bytes_eq field name then numeral_value factor else 0
 factor_in name (term.Field field) = if bytes_eq field name then 1 else 0
 factor_in name (term.Constant number) = 0
 
--- what a term is, where it is no field's
+-- the constant that a term is; 0 where it is a field's
 abbrev pub constant_in : TermText → ℕ
 constant_in (term.Constant number) = numeral_value number
 constant_in other = 0

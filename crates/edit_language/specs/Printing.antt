@@ -18,7 +18,7 @@ use Rattle.edit_model.specs.declared.rule.Test.{Test}
 use Rattle.edit_model.specs.declared.rule.Test.TheVariants as test
 use Rattle.edit_language.specs.Meaning.{field_codes}
 
--- the name of a field, by its number
+-- the name of the field of this number, from 0; nothing where no field has it
 abbrev pub name_at : List Field → ℕ → List ℕ
 name_at fields i = option_map_or (λ (f : Field). f.name) (slice_get fields i) []
 

@@ -11,12 +11,12 @@ abbrev pub IsFaultOf : List ℕ → RulesFault → Type 0
 IsFaultOf bytes (fault.At line kind) = IsRulesFault bytes line kind
 IsFaultOf bytes fault.OutOfMemory = Unit {0}
 
--- and the text has no other
+-- the text has no other first fault
 abbrev pub IsOnlyFaultOf : List ℕ → RulesFault → Type 0
 IsOnlyFaultOf bytes (fault.At line kind) = (n : ℕ) (k : RulesKind) → IsRulesFault bytes n k → (n ≡ line) × (k ≡ kind)
 IsOnlyFaultOf bytes fault.OutOfMemory = Unit {0}
 
--- and it is no rule text
+-- the text is no rule text; want of memory says nothing of that
 abbrev pub IsNoRuleText : List ℕ → RulesFault → Type 0
 IsNoRuleText bytes (fault.At line kind) = (survey : SurveyParts) → ¬ IsRuleText bytes survey
 IsNoRuleText bytes fault.OutOfMemory = Unit {0}

@@ -200,8 +200,8 @@ fn any_equation(tests: &[TestText]) -> bool
     tests.iter().any(|test| is_equation(test))
 }
 
-// Whether the conditions are of a form that the language has. Code tests alone are, before any conclusion.
-// A number test is one where it is the only condition and no equation, and the conclusion is a code test.
+// Whether the rule has a form that the editor takes. Its conditions are code tests alone, before any
+// conclusion. Or its only condition is a number test that is no equation, before a code test.
 fn has_form(rule: &RuleText) -> bool
     ensures { result ≡ has_rule_form rule.now }
 {

@@ -17,7 +17,7 @@ pub(crate) fn without_mark(bytes: &[u8]) -> &[u8]
     }
 }
 
-// The first place of the byte, or None where the text doesn't have it.
+// The first place of the byte, from 0, or None where the text doesn't have it.
 fn place_of(text: &[u8], byte: u8) -> Option<usize>
     ensures { result ≡ position (λ b. b == byte) text.now }
 {

@@ -85,7 +85,7 @@ fn constant_in(term: &TermText) -> u64
 }
 
 // What a term, without its sign, adds to the factor of the field with this `name`, or to the constant
-// where no name is given. It is within its limit, so at most 10^15.
+// where no name is given. The caller has found it to be within its limit, so it is at most 10^15.
 fn part_in(name: Option<&Name>, term: &TermText) -> u64
     requires { is_large_term term.now ≡ false }
     ensures value { result ≡ part_in (option_map (λ n. n.now) name.entry) term.now }

@@ -32,8 +32,8 @@ pub struct Linear {
 #[derive(Debug, Drop)]
 pub enum Test {
     Number(Linear),
-    /// The field's code is one of the set, whose bit c stands for the code of number c; or is none of
-    /// them where the test is negated.
+    /// The field's code is one of the set; or it is none of them where the test is negated. Bit c of the
+    /// set stands for the code of number c, from 0.
     Codes {
         field: u32,
         negated: bool,

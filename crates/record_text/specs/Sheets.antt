@@ -35,7 +35,7 @@ pub record IsSheet (fields : List Field) (bytes : List ℕ) (sheet : SheetParts)
   pub columns : StandIn fields sheet.header sheet.columns
   pub values : AreRows fields sheet.columns sheet.row_texts sheet.rows
 
--- what is wrong with the bytes' records
+-- the first of what is wrong with the bytes' records is this fault
 pub record IsSheetFault (fields : List Field) (bytes : List ℕ) (fault : SheetFault) : Type 0 where
   pub records : List (List (List ℕ))
   pub given : AreRecordsOf bytes records

@@ -34,7 +34,7 @@ pub record IsTable (bytes : List ℕ) (table : TableParts) : Type 0 where
   pub faultless : table_fault (first ∷ table.rows) ≡ None
   pub header : table.header ≡ header_of first
 
--- what is wrong with the bytes' records
+-- the first of what is wrong with the bytes' records is this fault
 pub record IsTableFault (bytes : List ℕ) (fault : TableFault) : Type 0 where
   pub records : List (List (List ℕ))
   pub given : AreRecordsOf bytes records

@@ -66,7 +66,8 @@ impl<'a> Cursor<'a> {
         }
     }
 
-    // The tokens of a text that begins inside braces, or outside. The first one is read ahead here.
+    // The tokens of a text that begins inside braces (`inside`) or outside. The first one is read ahead here,
+    // at the beginning of a line and behind each token that is taken.
     fn begin(inside: bool, text: &'a [u8]) -> Cursor<'a>
         ensures { result ≡ tokens_from inside text.now }
     {

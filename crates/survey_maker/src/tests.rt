@@ -46,8 +46,8 @@ const FILES: &[(u32, u32, &[u8])] = &[
     ),
 ];
 
-/// Makes each record file of the table, from its start and its number of rows, and compares it with the
-/// file that stands behind them, byte for byte. The test ends at the first that differs.
+/// Makes each record file of the table, from its start and its number of rows. It compares each, byte for
+/// byte, with the file that stands behind these. The test ends at the first that differs.
 fn compare_files(rt: &impl Abort, alloc: Global, cases: &[(u32, u32, &[u8])]) -> Result<(), Fail> {
     for (start, rows, file) in cases {
         let text = records_text(alloc, *start, *rows)?;

@@ -34,7 +34,7 @@ abbrev pub first_true : List (Bool × RulesKind) → Option RulesKind
 first_true [] = None
 first_true (test ∷ tests) = if test.0 then Some test.1 else first_true tests
 
--- the name that is declared, its weight, and its scale or its codes
+-- the least kind of fault of a declaration after these lines; None where it has none
 abbrev pub declaration_fault : SurveyParts → Declared → Option RulesKind
 declaration_fault survey (declaration.Number name weight scale) = first_true (
     (list_any (λ (f : Field). bytes_eq f.name name) survey.fields, DoubleField)
@@ -46,11 +46,11 @@ declaration_fault survey (declaration.Code name weight list) = first_true (
     ∷ (is_outside most_weight weight, NumberRange)
     ∷ (nat_le most_fields (length survey.fields) || nat_lt most_codes (length (listed list)), TooMany) ∷ [])
 
--- this is found of the declaration behind these fields, whatever the rules before it are
+-- this is the least kind of fault of the declaration after these fields, or None, whatever the rules before it are
 abbrev pub IsDeclarationFault : List Field → Declared → Option RulesKind → Type 0
 IsDeclarationFault fields d fault = (rules : List Rule) → fault ≡ declaration_fault (survey_of fields rules) d
 
--- a rule over the fields before it
+-- the least kind of fault of a rule after these lines; None where it has none
 abbrev pub rule_fault : SurveyParts → RuleText → Option RulesKind
 rule_fault survey r = first_true (
     (not (list_all (is_known_test survey.fields) (tests_of r)), UnknownField)

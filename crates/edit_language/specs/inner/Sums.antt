@@ -17,7 +17,7 @@ abbrev pub parts_added : Option (List ℕ) → List SignedTerm → ℤ
 parts_added name [] = pos 0
 parts_added name (t ∷ ts) = signed t.sign (part_in name t.term) +ℤ parts_added name ts
 
--- the left side without the right
+-- what the left side adds to the field's factor, or to the constant, less what the right side does
 abbrev pub parts_moved : Option (List ℕ) → SumText → SumText → ℤ
 parts_moved name left right = parts_added name (terms_of left) -ℤ parts_added name (terms_of right)
 

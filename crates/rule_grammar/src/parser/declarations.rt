@@ -14,8 +14,8 @@ use crate::token::{Keyword, Numeral};
 use std::alloc::Global;
 
 /// Reads a part that may be left out: the keyword `word`, and the numeral behind it. `Some(None)` where
-/// another token comes next: the part is left out. None where the keyword does, and no numeral is behind
-/// it.
+/// another token comes next: the part is left out. None where the keyword comes next without a numeral
+/// behind it.
 fn read_optional_numeral(cursor: &mut Cursor, word: Keyword) -> Option<Option<Numeral>>
     ensures { Reads (option_at word cursor.old) cursor.new result }
 {
