@@ -26,7 +26,7 @@ impl Model for Generator {
 }
 
 impl Generator {
-    /// The generator that starts from this number: it is the first state, from which nothing is drawn itself.
+    /// The generator whose first state is this number. Each draw steps to the next state before it draws.
     pub(crate) fn new(start: u32) -> Generator
         ensures { result ≡ start }
     {
@@ -35,7 +35,7 @@ impl Generator {
         }
     }
 
-    /// Steps to the next state, and draws a number from 0 to below the bound from it. The number comes from
+    /// Steps to the next state, and draws from it a number from 0 on, below the bound. The number comes from
     /// the upper 31 bits of the state, since the lower ones of such a generator repeat soon.
     #[tactic(auto, unfolding(crate::specs::Draws::drawn, crate::specs::Draws::next_state))]
     pub(crate) fn draw(&mut self, bound: u32) -> u32
