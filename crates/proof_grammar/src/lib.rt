@@ -19,7 +19,7 @@ pub use fault::ProofFault;
 pub use heads::{LeafHead, RowHead, RunLimits};
 pub use laws::proof_laws;
 pub use lines::{Lines, settle};
-pub use numbers::{named_long, named_short};
+pub use numbers::{read_named_u32, read_named_u64};
 pub use proof::Proof;
 pub use text::one_reading;
 pub use words::{Stop, Words};

@@ -9,7 +9,7 @@ use itoa::Buffer;
 
 /// The number that the word spells as it is printed: digits alone, no zero in front, and below 2^128. None
 /// for any other word. It is printed again to see that, since `parse` also takes a plus and zeros.
-fn decimal(word: &[u8]) -> Option<u128>
+fn read_decimal(word: &[u8]) -> Option<u128>
     ensures { result ≡ decimal_said word.now }
 {
     let Ok(text) = str::from_utf8(word) else {
@@ -27,10 +27,10 @@ fn decimal(word: &[u8]) -> Option<u128>
 }
 
 /// The number below 2^64 that the word spells. None for any other word.
-pub fn long(word: &[u8]) -> Option<u64>
+pub fn read_u64(word: &[u8]) -> Option<u64>
     ensures { result ≡ long_said word.now }
 {
-    let number = decimal(word)?;
+    let number = read_decimal(word)?;
     if number <= u64::MAX as u128 {
         Some(number as u64)
     } else {
@@ -39,10 +39,10 @@ pub fn long(word: &[u8]) -> Option<u64>
 }
 
 /// The number below 2^32 that the word spells. None for any other word.
-pub fn short(word: &[u8]) -> Option<u32>
+pub fn read_u32(word: &[u8]) -> Option<u32>
     ensures { result ≡ short_said word.now }
 {
-    let number = decimal(word)?;
+    let number = read_decimal(word)?;
     if number <= u32::MAX as u128 {
         Some(number as u32)
     } else {
@@ -52,10 +52,10 @@ pub fn short(word: &[u8]) -> Option<u32>
 
 /// The number, from 0, of a line or a step whose name is from 1 to 2^64: one less than the name. None for
 /// any other word.
-pub fn named_long(word: &[u8]) -> Option<u64>
+pub fn read_named_u64(word: &[u8]) -> Option<u64>
     ensures { result ≡ named_long word.now }
 {
-    let number = decimal(word)?;
+    let number = read_decimal(word)?;
     if number == 0 || number - 1 > u64::MAX as u128 {
         None
     } else {
@@ -65,10 +65,10 @@ pub fn named_long(word: &[u8]) -> Option<u64>
 
 /// The number, from 0, of a field, a rule, a row or a donor whose name is from 1 to 2^32. It is one less
 /// than the name. None for any other word.
-pub fn named_short(word: &[u8]) -> Option<u32>
+pub fn read_named_u32(word: &[u8]) -> Option<u32>
     ensures { result ≡ named_short word.now }
 {
-    let number = decimal(word)?;
+    let number = read_decimal(word)?;
     if number == 0 || number - 1 > u32::MAX as u128 {
         None
     } else {
@@ -78,11 +78,11 @@ pub fn named_short(word: &[u8]) -> Option<u32>
 
 /// One less than the number from 1 to 2^64 - 1 that the word spells. None for the word 0, so that a weight
 /// of at least 1 is read.
-pub fn positive(word: &[u8]) -> Option<u64>
+pub fn read_one_less(word: &[u8]) -> Option<u64>
     ensures read { result ≡ positive_said word.now }
     ensures fits { IfSome result (λ less. suc less < 2 ^ 64) }
 {
-    let number = decimal(word)?;
+    let number = read_decimal(word)?;
     if number == 0 || number > u64::MAX as u128 {
         None
     } else {
@@ -92,10 +92,10 @@ pub fn positive(word: &[u8]) -> Option<u64>
 
 /// The place of a number in a line: the field of this name, from 1 to 2^32, or the constant for the word
 /// 0. None for any other word.
-pub fn place(word: &[u8]) -> Option<Place>
+pub fn read_place(word: &[u8]) -> Option<Place>
     ensures { result ≡ place_said word.now }
 {
-    match named_short_or_none(word) {
+    match read_named_u32_or_none(word) {
         None => None,
         Some(None) => Some(Place::Constant),
         Some(Some(field)) => Some(Place::Field(field)),
@@ -104,10 +104,10 @@ pub fn place(word: &[u8]) -> Option<Place>
 
 /// The number, from 0, of what is named from 1 to 2^32; the inner None for the word 0, which names
 /// nothing. The outer None for any other word.
-pub fn named_short_or_none(word: &[u8]) -> Option<Option<u32>>
+pub fn read_named_u32_or_none(word: &[u8]) -> Option<Option<u32>>
     ensures { result ≡ named_short_or_0 word.now }
 {
-    let number = decimal(word)?;
+    let number = read_decimal(word)?;
     if number == 0 {
         Some(None)
     } else if number - 1 > u32::MAX as u128 {
@@ -120,7 +120,7 @@ pub fn named_short_or_none(word: &[u8]) -> Option<Option<u32>>
 /// The whole number in range that the word spells as it is printed: no plus, no zero in front, and no
 /// minus at 0. None for any other word. Out of range is -2^127, since numbers are of absolute value at
 /// most 2^127 - 1.
-pub fn whole(word: &[u8]) -> Option<i128>
+pub fn read_whole(word: &[u8]) -> Option<i128>
     ensures { result ≡ whole_said word.now }
 {
     let Ok(text) = str::from_utf8(word) else {
@@ -139,9 +139,9 @@ pub fn whole(word: &[u8]) -> Option<i128>
 
 /// The whole number in range that the word spells, or None where it is negative or the word spells none.
 /// That 0 is no divisor is a condition on a proof, and not on its text.
-pub fn divisor(word: &[u8]) -> Option<i128>
+pub fn read_divisor(word: &[u8]) -> Option<i128>
     ensures { result ≡ divisor_said word.now }
 {
-    let number = whole(word)?;
+    let number = read_whole(word)?;
     if 0 <= number { Some(number) } else { None }
 }

@@ -9,7 +9,7 @@ use std::alloc::Global;
 
 /// The path that the word spells: `-` is the path of no fields, and else K is a kept field and C a changed
 /// one. `Form` where the word is no path, such as an empty one.
-pub fn path(alloc: Global, word: &[u8]) -> Result<Path, Stop>
+pub fn read_path(alloc: Global, word: &[u8]) -> Result<Path, Stop>
     ensures { ReadsAs result (path_said word.now) }
 {
     if word.is_empty() {
@@ -21,7 +21,7 @@ pub fn path(alloc: Global, word: &[u8]) -> Result<Path, Stop>
     if !are_letters(word) {
         return Err(Stop::Form);
     }
-    letters(alloc, word)
+    read_letters(alloc, word)
 }
 
 // Whether each byte is K or C.
@@ -33,7 +33,7 @@ fn are_letters(word: &[u8]) -> bool
 
 // The path of these letters: C is a changed field, and any other byte a kept one. The caller has seen that
 // each is K or C.
-fn letters(alloc: Global, word: &[u8]) -> Result<Path, Stop>
+fn read_letters(alloc: Global, word: &[u8]) -> Result<Path, Stop>
     ensures { ReadsAs result (Some (map is_changed word.now)) }
 {
     let Ok(mut letters) = Vec::with_capacity(alloc, word.len()) else {

@@ -9,9 +9,10 @@ ghost use Rattle.proof_grammar.specs.Cuts.{split};
 ghost use Rattle.proof_grammar.specs.Words.{ReadsAs, Takes, divisor_said, ended, fixed_said, long_said, named_long, named_short, named_short_or_0, path_said, place_said, positive_said, short_said, whole_said, word_in};
 
 use crate::numbers::{
-    divisor, long, named_long, named_short, named_short_or_none, place, positive, short, whole,
+    read_divisor, read_named_u32, read_named_u32_or_none, read_named_u64, read_one_less, read_place,
+    read_u32, read_u64, read_whole,
 };
-use crate::paths::path;
+use crate::paths::read_path;
 use bound_cert::Path;
 use edit_line::Place;
 use std::alloc::Global;
@@ -85,110 +86,110 @@ impl<'a> Words<'a> {
     }
 
     /// Takes a number below 2^64.
-    pub fn long(&mut self) -> Result<u64, Stop>
+    pub fn take_u64(&mut self) -> Result<u64, Stop>
         ensures taken { Takes result self.new (word_in long_said self.old) }
         ensures refused { OnErr result (self.new ≡ self.old) }
     {
         let (word, behind) = self.front()?;
-        let read = long(word).ok_or(Stop::Form)?;
+        let read = read_u64(word).ok_or(Stop::Form)?;
         *self = behind;
         Ok(read)
     }
 
     /// Takes a number below 2^32.
-    pub fn short(&mut self) -> Result<u32, Stop>
+    pub fn take_u32(&mut self) -> Result<u32, Stop>
         ensures taken { Takes result self.new (word_in short_said self.old) }
         ensures refused { OnErr result (self.new ≡ self.old) }
     {
         let (word, behind) = self.front()?;
-        let read = short(word).ok_or(Stop::Form)?;
+        let read = read_u32(word).ok_or(Stop::Form)?;
         *self = behind;
         Ok(read)
     }
 
     /// Takes the name, from 1 to 2^64, of a line or a step, and answers its number, from 0.
-    pub fn named_long(&mut self) -> Result<u64, Stop>
+    pub fn take_named_u64(&mut self) -> Result<u64, Stop>
         ensures taken { Takes result self.new (word_in named_long self.old) }
         ensures refused { OnErr result (self.new ≡ self.old) }
     {
         let (word, behind) = self.front()?;
-        let read = named_long(word).ok_or(Stop::Form)?;
+        let read = read_named_u64(word).ok_or(Stop::Form)?;
         *self = behind;
         Ok(read)
     }
 
     /// Takes the name, from 1 to 2^32, of a field, a rule, a row or a donor, and answers its number, from
     /// 0.
-    pub fn named_short(&mut self) -> Result<u32, Stop>
+    pub fn take_named_u32(&mut self) -> Result<u32, Stop>
         ensures taken { Takes result self.new (word_in named_short self.old) }
         ensures refused { OnErr result (self.new ≡ self.old) }
     {
         let (word, behind) = self.front()?;
-        let read = named_short(word).ok_or(Stop::Form)?;
+        let read = read_named_u32(word).ok_or(Stop::Form)?;
         *self = behind;
         Ok(read)
     }
 
     /// Takes a name from 1 to 2^32 and answers its number, from 0, or None for the word 0, which names
     /// nothing.
-    pub fn named_short_or_none(&mut self) -> Result<Option<u32>, Stop>
+    pub fn take_named_u32_or_none(&mut self) -> Result<Option<u32>, Stop>
         ensures taken { Takes result self.new (word_in named_short_or_0 self.old) }
         ensures refused { OnErr result (self.new ≡ self.old) }
     {
         let (word, behind) = self.front()?;
-        let read = named_short_or_none(word).ok_or(Stop::Form)?;
+        let read = read_named_u32_or_none(word).ok_or(Stop::Form)?;
         *self = behind;
         Ok(read)
     }
 
     /// Takes a whole number in range, of absolute value at most 2^127 - 1.
-    pub fn whole(&mut self) -> Result<i128, Stop>
+    pub fn take_whole(&mut self) -> Result<i128, Stop>
         ensures taken { Takes result self.new (word_in whole_said self.old) }
         ensures refused { OnErr result (self.new ≡ self.old) }
     {
         let (word, behind) = self.front()?;
-        let read = whole(word).ok_or(Stop::Form)?;
+        let read = read_whole(word).ok_or(Stop::Form)?;
         *self = behind;
         Ok(read)
     }
 
     /// Takes a whole number in range that is not negative.
-    pub fn divisor(&mut self) -> Result<i128, Stop>
+    pub fn take_divisor(&mut self) -> Result<i128, Stop>
         ensures taken { Takes result self.new (word_in divisor_said self.old) }
         ensures refused { OnErr result (self.new ≡ self.old) }
     {
         let (word, behind) = self.front()?;
-        let read = divisor(word).ok_or(Stop::Form)?;
+        let read = read_divisor(word).ok_or(Stop::Form)?;
         *self = behind;
         Ok(read)
     }
 
     /// Takes a number from 1 to 2^64 - 1, and answers one less than it.
-    pub fn positive(&mut self) -> Result<u64, Stop>
+    pub fn take_one_less(&mut self) -> Result<u64, Stop>
         ensures read { Takes result self.new (word_in positive_said self.old) }
         ensures fits { IfOk result (λ less. suc less < 2 ^ 64) }
         ensures refused { OnErr result (self.new ≡ self.old) }
     {
         let (word, behind) = self.front()?;
-        let read = positive(word).ok_or(Stop::Form)?;
+        let read = read_one_less(word).ok_or(Stop::Form)?;
         *self = behind;
         Ok(read)
     }
 
     /// Takes the place of a number in a line of the rules: the name of a field, from 1, or 0 for the
     /// constant.
-    pub fn place(&mut self) -> Result<Place, Stop>
+    pub fn take_place(&mut self) -> Result<Place, Stop>
         ensures taken { Takes result self.new (word_in place_said self.old) }
         ensures refused { OnErr result (self.new ≡ self.old) }
     {
         let (word, behind) = self.front()?;
-        let read = place(word).ok_or(Stop::Form)?;
+        let read = read_place(word).ok_or(Stop::Form)?;
         *self = behind;
         Ok(read)
     }
 
     /// Takes the word that is just `word`. Any other is `Form`, and is not taken.
-    pub fn fixed(&mut self, word: &[u8]) -> Result<(), Stop>
+    pub fn take_word(&mut self, word: &[u8]) -> Result<(), Stop>
         ensures taken { Takes result self.new (word_in (fixed_said word.now) self.old) }
         ensures refused { OnErr result (self.new ≡ self.old) }
     {
@@ -201,12 +202,12 @@ impl<'a> Words<'a> {
     }
 
     /// Takes the letters of a path. This call alone takes memory.
-    pub fn path(&mut self, alloc: Global) -> Result<Path, Stop>
+    pub fn take_path(&mut self, alloc: Global) -> Result<Path, Stop>
         ensures taken { Takes result self.new (word_in path_said self.old) }
         ensures refused { OnErr result (self.new ≡ self.old) }
     {
         let (word, behind) = self.front()?;
-        let path = path(alloc, word)?;
+        let path = read_path(alloc, word)?;
         *self = behind;
         Ok(path)
     }

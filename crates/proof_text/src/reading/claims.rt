@@ -30,7 +30,7 @@ fn claim(alloc: Global, line: &[u8]) -> Result<Entry, Stop>
     ensures { ReadsAs result (claim_in (split 32 line.now)) }
 {
     let mut words = Words::new(line);
-    words.fixed(b"claim")?;
+    words.take_word(b"claim")?;
     behind_claim(alloc, &mut words)
 }
 
@@ -39,8 +39,8 @@ fn claim(alloc: Global, line: &[u8]) -> Result<Entry, Stop>
 fn behind_claim(alloc: Global, words: &mut Words) -> Result<Entry, Stop>
     ensures { ReadsAs result (claim_behind words.old) }
 {
-    let row_no = words.named_short()?;
-    let reply = words.named_short_or_none()?;
+    let row_no = words.take_named_u32()?;
+    let reply = words.take_named_u32_or_none()?;
     let ranking = all_named(alloc, words)?;
     Ok(Entry {
         row_no,

@@ -171,7 +171,7 @@ fn version(line: &[u8]) -> Result<u32, Stop>
     ensures { ReadsAs result (version_in (split 32 line.now)) }
 {
     let mut words = Words::new(line);
-    words.fixed(b"fh-proof")?;
+    words.take_word(b"fh-proof")?;
     let version = version_number(&mut words)?;
     words.end()?;
     Ok(version)
@@ -206,8 +206,8 @@ fn limits(line: &[u8]) -> Result<RunLimits, Stop>
     ensures { ReadsAs result (limits_in (split 32 line.now)) }
 {
     let mut words = Words::new(line);
-    words.fixed(b"limit")?;
-    let limit = words.short()?;
+    words.take_word(b"limit")?;
+    let limit = words.take_u32()?;
     near_behind(&mut words, limit)
 }
 
@@ -216,8 +216,8 @@ fn limits(line: &[u8]) -> Result<RunLimits, Stop>
 fn near_behind(words: &mut Words, limit: u32) -> Result<RunLimits, Stop>
     ensures { ReadsAs result (near_behind limit words.old) }
 {
-    words.fixed(b"near")?;
-    let near = words.short()?;
+    words.take_word(b"near")?;
+    let near = words.take_u32()?;
     budget_behind(words, limit, near)
 }
 
@@ -225,8 +225,8 @@ fn near_behind(words: &mut Words, limit: u32) -> Result<RunLimits, Stop>
 fn budget_behind(words: &mut Words, limit: u32, near: u32) -> Result<RunLimits, Stop>
     ensures { ReadsAs result (budget_behind limit near words.old) }
 {
-    words.fixed(b"budget")?;
-    let budget = words.long()?;
+    words.take_word(b"budget")?;
+    let budget = words.take_u64()?;
     words.end()?;
     Ok(RunLimits {
         limit,
@@ -248,8 +248,8 @@ fn count(line: &[u8], word: &[u8]) -> Result<u64, Stop>
     ensures { ReadsAs result (count_in word.now (split 32 line.now)) }
 {
     let mut words = Words::new(line);
-    words.fixed(word)?;
-    let count = words.long()?;
+    words.take_word(word)?;
+    let count = words.take_u64()?;
     words.end()?;
     Ok(count)
 }
@@ -267,6 +267,6 @@ fn end(line: &[u8]) -> Result<(), Stop>
     ensures { ReadsAs result (end_in (split 32 line.now)) }
 {
     let mut words = Words::new(line);
-    words.fixed(b"end")?;
+    words.take_word(b"end")?;
     words.end()
 }

@@ -95,7 +95,7 @@ fn head(alloc: Global, line: &[u8]) -> Result<LeafHead, Stop>
 fn bound(alloc: Global, words: &mut Words) -> Result<LeafHead, Stop>
     ensures { ReadsAs result (bound_in words.old) }
 {
-    let path = words.path(alloc)?;
+    let path = words.take_path(alloc)?;
     words.end()?;
     Ok(LeafHead::BoundAt(path))
 }
@@ -105,7 +105,7 @@ fn bound(alloc: Global, words: &mut Words) -> Result<LeafHead, Stop>
 fn bad(alloc: Global, words: &mut Words) -> Result<LeafHead, Stop>
     ensures { ReadsAs result (bad_in words.old) }
 {
-    let path = words.path(alloc)?;
+    let path = words.take_path(alloc)?;
     words.end()?;
     Ok(LeafHead::BadAt(path))
 }
@@ -115,8 +115,8 @@ fn bad(alloc: Global, words: &mut Words) -> Result<LeafHead, Stop>
 fn by_line(alloc: Global, words: &mut Words) -> Result<LeafHead, Stop>
     ensures { ReadsAs result (line_in words.old) }
 {
-    let path = words.path(alloc)?;
-    let count = words.long()?;
+    let path = words.take_path(alloc)?;
+    let count = words.take_u64()?;
     words.end()?;
     Ok(LeafHead::LineAt(path, count))
 }
@@ -126,8 +126,8 @@ fn by_line(alloc: Global, words: &mut Words) -> Result<LeafHead, Stop>
 fn by_box(alloc: Global, words: &mut Words) -> Result<LeafHead, Stop>
     ensures { ReadsAs result (box_in words.old) }
 {
-    let path = words.path(alloc)?;
-    let count = words.long()?;
+    let path = words.take_path(alloc)?;
+    let count = words.take_u64()?;
     words.end()?;
     Ok(LeafHead::BoxAt(path, count))
 }

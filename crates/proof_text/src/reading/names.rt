@@ -8,7 +8,7 @@ ghost use Rattle.proof_grammar.specs.inner.WordLists.{all_in};
 
 use super::fitted::fitted;
 use foundation::Sequence;
-use proof_grammar::{Stop, Words, named_long, named_short};
+use proof_grammar::{Stop, Words, read_named_u32, read_named_u64};
 use std::alloc::Global;
 
 /// A type of numbers of what a text names: from 1 in the text, and from 0 in memory.
@@ -28,7 +28,7 @@ impl Named for u64 {
 
     // The number of a step, which is named from 1 to 2^64.
     fn number(word: &[u8]) -> Option<u64> {
-        named_long(word)
+        read_named_u64(word)
     }
 }
 
@@ -37,7 +37,7 @@ impl Named for u32 {
 
     // The number of a row, which is named from 1 to 2^32.
     fn number(word: &[u8]) -> Option<u32> {
-        named_short(word)
+        read_named_u32(word)
     }
 }
 

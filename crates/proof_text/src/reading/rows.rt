@@ -131,9 +131,9 @@ fn change(alloc: Global, words: &mut Words) -> Result<RowHead, Stop>
     ensures read { ReadsAs result (change_in words.old) }
     ensures fits { IfOk result WeighsLong }
 {
-    let less = words.positive()?;
-    let path = words.path(alloc)?;
-    let count = words.long()?;
+    let less = words.take_one_less()?;
+    let path = words.take_path(alloc)?;
+    let count = words.take_u64()?;
     words.end()?;
     Ok(RowHead::ChangeAt(less, path, count))
 }
@@ -144,10 +144,10 @@ fn gift(alloc: Global, words: &mut Words) -> Result<RowHead, Stop>
     ensures read { ReadsAs result (gift_in words.old) }
     ensures fits { IfOk result WeighsLong }
 {
-    let weight = words.long()?;
-    let path = words.path(alloc)?;
+    let weight = words.take_u64()?;
+    let path = words.take_path(alloc)?;
     let fault = gift_fault(words)?;
-    let count = words.long()?;
+    let count = words.take_u64()?;
     words.end()?;
     Ok(RowHead::GiftAt(weight, path, fault, count))
 }
@@ -157,13 +157,13 @@ fn gift(alloc: Global, words: &mut Words) -> Result<RowHead, Stop>
 fn gift_fault(words: &mut Words) -> Result<GiftFault, Stop>
     ensures { Takes result words.new (gift_fault_in words.old) }
 {
-    match words.named_short_or_none()? {
+    match words.take_named_u32_or_none()? {
         None => {
-            let rule = words.named_short()?;
+            let rule = words.take_named_u32()?;
             Ok(GiftFault::Test { rule })
         }
         Some(field) => {
-            let line = words.named_long()?;
+            let line = words.take_named_u64()?;
             Ok(GiftFault::Bound { field, line })
         }
     }
@@ -175,8 +175,8 @@ fn budget(alloc: Global, words: &mut Words) -> Result<RowHead, Stop>
     ensures read { ReadsAs result (budget_in words.old) }
     ensures fits { IfOk result WeighsLong }
 {
-    let path = words.path(alloc)?;
-    let work = words.long()?;
+    let path = words.take_path(alloc)?;
+    let work = words.take_u64()?;
     words.end()?;
     Ok(RowHead::BudgetAt(path, work))
 }
@@ -187,10 +187,10 @@ fn step_event(alloc: Global, words: &mut Words) -> Result<RowHead, Stop>
     ensures read { ReadsAs result (step_event_in words.old) }
     ensures fits { IfOk result WeighsLong }
 {
-    let path = words.path(alloc)?;
-    let first = words.named_long()?;
-    let second = words.named_long()?;
-    let place = words.place()?;
+    let path = words.take_path(alloc)?;
+    let first = words.take_named_u64()?;
+    let second = words.take_named_u64()?;
+    let place = words.take_place()?;
     words.end()?;
     Ok(RowHead::EventAt(
         path,
@@ -208,9 +208,9 @@ fn test_event(alloc: Global, words: &mut Words) -> Result<RowHead, Stop>
     ensures read { ReadsAs result (test_event_in words.old) }
     ensures fits { IfOk result WeighsLong }
 {
-    let path = words.path(alloc)?;
-    let line = words.named_long()?;
-    let field = words.named_short()?;
+    let path = words.take_path(alloc)?;
+    let line = words.take_named_u64()?;
+    let field = words.take_named_u32()?;
     words.end()?;
     Ok(RowHead::EventAt(path, Event::Test { line, field }))
 }
@@ -220,7 +220,7 @@ fn contradictory(words: &mut Words) -> Result<RowHead, Stop>
     ensures read { ReadsAs result (contradictory_in words.old) }
     ensures fits { IfOk result WeighsLong }
 {
-    let count = words.long()?;
+    let count = words.take_u64()?;
     words.end()?;
     Ok(RowHead::ContradictoryAt(count))
 }

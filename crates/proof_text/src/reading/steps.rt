@@ -118,7 +118,7 @@ fn shared_step(alloc: Global, line: &[u8], count: u64) -> Result<Step, Stop>
 fn given_of_rules(words: &mut Words, count: u64) -> Result<Step, Stop>
     ensures { ReadsAs result (few_given_in count words.old) }
 {
-    let place = words.named_long()?;
+    let place = words.take_named_u64()?;
     if place >= count {
         return Err(Stop::Form);
     }
@@ -131,7 +131,7 @@ fn given_of_rules(words: &mut Words, count: u64) -> Result<Step, Stop>
 fn shared_line(words: &mut Words, count: u64) -> Result<Step, Stop>
     ensures { ReadsAs result (shared_in count words.old) }
 {
-    let place = words.named_long()?;
+    let place = words.take_named_u64()?;
     let Some(name) = count.checked_add(place) else {
         return Err(Stop::Form);
     };
@@ -166,7 +166,7 @@ fn step(alloc: Global, line: &[u8]) -> Result<Step, Stop>
 fn given_line(words: &mut Words) -> Result<Step, Stop>
     ensures { ReadsAs result (given_in words.old) }
 {
-    let place = words.named_long()?;
+    let place = words.take_named_u64()?;
     words.end()?;
     Ok(Step::Given(place))
 }
@@ -176,11 +176,11 @@ fn given_line(words: &mut Words) -> Result<Step, Stop>
 fn combine(words: &mut Words) -> Result<Step, Stop>
     ensures { ReadsAs result (combine_in words.old) }
 {
-    let a = words.named_long()?;
-    let m = words.whole()?;
-    let b = words.named_long()?;
-    let n = words.whole()?;
-    let g = words.divisor()?;
+    let a = words.take_named_u64()?;
+    let m = words.take_whole()?;
+    let b = words.take_named_u64()?;
+    let n = words.take_whole()?;
+    let g = words.take_divisor()?;
     words.end()?;
     Ok(Step::Combine { a, m, b, n, g })
 }
@@ -189,7 +189,7 @@ fn combine(words: &mut Words) -> Result<Step, Stop>
 fn fail(words: &mut Words) -> Result<Step, Stop>
     ensures { ReadsAs result (fail_in words.old) }
 {
-    let place = words.named_long()?;
+    let place = words.take_named_u64()?;
     words.end()?;
     Ok(Step::Fail(place))
 }
@@ -198,7 +198,7 @@ fn fail(words: &mut Words) -> Result<Step, Stop>
 fn cover(alloc: Global, words: &mut Words) -> Result<Step, Stop>
     ensures { ReadsAs result (cover_in words.old) }
 {
-    let field = words.named_short()?;
+    let field = words.take_named_u32()?;
     let parts = all_named(alloc, words)?;
     Ok(Step::Cover { field, parts })
 }
@@ -207,8 +207,8 @@ fn cover(alloc: Global, words: &mut Words) -> Result<Step, Stop>
 fn fix(words: &mut Words) -> Result<Step, Stop>
     ensures { ReadsAs result (fix_in words.old) }
 {
-    let field = words.named_short()?;
-    let part = words.named_long()?;
+    let field = words.take_named_u32()?;
+    let part = words.take_named_u64()?;
     words.end()?;
     Ok(Step::Fix { field, part })
 }

@@ -69,7 +69,7 @@ fn head(line: &[u8]) -> Result<Option<u64>, Stop>
         words.end()?;
         Ok(None)
     } else if kind == b"drop".as_slice() {
-        let count = words.long()?;
+        let count = words.take_u64()?;
         words.end()?;
         Ok(Some(count))
     } else {

@@ -8,7 +8,7 @@ use Rattle.std.proofs.lemmas.Slice.Eq.{bytes_eq-Decides}
 use Rattle.std.proofs.lemmas.Str.{IsUtf8-from_ascii}
 use Rattle.proof_grammar.proofs.WordLaws.{decimal_said-again, decimal_said-none}
 use Rattle.proof_grammar.specs.Words.{decimal_said}
-use Rattle.proof_grammar.proofs.numbers.decimal.Goals as goal
+use Rattle.proof_grammar.proofs.numbers.read_decimal.Goals as goal
 
 pub returns-in_default : goal.returns-in_default
 returns-in_default c =

@@ -11,8 +11,8 @@ use Rattle.fraction128.specs.Range.{InRange}
 use Rattle.fraction128.proofs.TextLaws.{signed_decimal-ascii, signed_decimal-read}
 use Rattle.proof_grammar.specs.Words.{whole_said}
 use Rattle.proof_grammar.proofs.WordLaws.{whole_said-again, whole_said-none}
-use Rattle.proof_grammar.proofs.numbers.whole.Goals as goal
-use Rattle.proof_grammar.proofs.numbers.whole.Goals.{else-number-via-then-number+else-eq, else-number-via-else-number}
+use Rattle.proof_grammar.proofs.numbers.read_whole.Goals as goal
+use Rattle.proof_grammar.proofs.numbers.read_whole.Goals.{else-number-via-then-number+else-eq, else-number-via-else-number}
 
 pub returns-in_default : goal.returns-in_default
 returns-in_default c = whole_said-none c.args.word.now (λ z fits e. c.in_default.ensures.cases.0
