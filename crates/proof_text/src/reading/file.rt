@@ -16,10 +16,10 @@ ghost use Rattle.proof_grammar.specs.inner.Readings.{Reads, read_line};
 ghost use Rattle.proof_grammar.specs.inner.RowReading.{row_reading};
 ghost use Rattle.proof_grammar.specs.Words.{ReadsAs, Takes, word_in};
 
-use super::parts::{Part, parts};
+use super::parts::{Part, next_parts};
 use super::places::{RowPlace, next_places};
 use super::proof_file::ProofFile;
-use super::steps::table_steps;
+use super::steps::next_table_steps;
 use crate::versions::{has_table, shared_from};
 use derivation::Step;
 use donor_book::Entry;
@@ -28,16 +28,19 @@ use proof_grammar::{Lines, ProofFault, RunLimits, Stop, Words, settle};
 use std::alloc::Global;
 
 /// The proof that all lines spell, but for what stands behind the line `end`.
-pub(super) fn file<'a>(alloc: Global, lines: &mut Lines<'a>) -> Result<ProofFile<'a>, ProofFault>
+pub(super) fn read_file<'a>(
+    alloc: Global,
+    lines: &mut Lines<'a>,
+) -> Result<ProofFile<'a>, ProofFault>
     ensures { Reads result lines.old lines.new (file_reading lines.old.left) }
 {
     let version = next_version(lines)?;
-    behind_version(alloc, lines, version)
+    read_behind_version(alloc, lines, version)
 }
 
 // Reads the limits and all that follows them. The `version` is read already, and the answer is the proof
 // of all parts.
-fn behind_version<'a>(
+fn read_behind_version<'a>(
     alloc: Global,
     lines: &mut Lines<'a>,
     version: u32,
@@ -45,12 +48,12 @@ fn behind_version<'a>(
     ensures { Reads result lines.old lines.new (behind_version version lines.old.left) }
 {
     let limits = next_limits(lines)?;
-    behind_limits(alloc, lines, version, limits)
+    read_behind_limits(alloc, lines, version, limits)
 }
 
 // Reads the verdicts and all that follows them. The parts before are read already, and the answer is the
 // proof of all parts.
-fn behind_limits<'a>(
+fn read_behind_limits<'a>(
     alloc: Global,
     lines: &mut Lines<'a>,
     version: u32,
@@ -58,13 +61,13 @@ fn behind_limits<'a>(
 ) -> Result<ProofFile<'a>, ProofFault>
     ensures { Reads result lines.old lines.new (lists_reading version limits lines.old.left) }
 {
-    let verdicts = counted_parts(alloc, lines, None, b"lines")?;
-    behind_verdicts(alloc, lines, version, limits, verdicts)
+    let verdicts = next_counted_parts(alloc, lines, None, b"lines")?;
+    read_behind_verdicts(alloc, lines, version, limits, verdicts)
 }
 
 // Reads the table, if the file has one, and all that follows it. The parts before are read already, and
 // the answer is the proof of all parts.
-fn behind_verdicts<'a>(
+fn read_behind_verdicts<'a>(
     alloc: Global,
     lines: &mut Lines<'a>,
     version: u32,
@@ -73,13 +76,13 @@ fn behind_verdicts<'a>(
 ) -> Result<ProofFile<'a>, ProofFault>
     ensures { Reads result lines.old lines.new (behind_verdicts version limits verdicts lines.old.left) }
 {
-    let table = table(alloc, lines, has_table(version))?;
-    behind_table(alloc, lines, version, limits, verdicts, table)
+    let table = next_table(alloc, lines, has_table(version))?;
+    read_behind_table(alloc, lines, version, limits, verdicts, table)
 }
 
 // Reads the rows and all that follows them. The parts before are read already, and the answer is the proof
 // of all parts.
-fn behind_table<'a>(
+fn read_behind_table<'a>(
     alloc: Global,
     lines: &mut Lines<'a>,
     version: u32,
@@ -90,13 +93,13 @@ fn behind_table<'a>(
     ensures { Reads result lines.old lines.new (rows_reading version limits verdicts table lines.old.left) }
 {
     let shared = shared_from(has_table(version), verdicts.as_slice().len());
-    let rows = counted_rows(alloc, lines, shared)?;
-    behind_rows(alloc, lines, version, limits, verdicts, table, rows)
+    let rows = next_counted_rows(alloc, lines, shared)?;
+    read_behind_rows(alloc, lines, version, limits, verdicts, table, rows)
 }
 
 // Reads the claims and the line `end`. The parts before are read already, and the answer is the proof of
 // all parts.
-fn behind_rows<'a>(
+fn read_behind_rows<'a>(
     alloc: Global,
     lines: &mut Lines<'a>,
     version: u32,
@@ -107,7 +110,7 @@ fn behind_rows<'a>(
 ) -> Result<ProofFile<'a>, ProofFault>
     ensures { Reads result lines.old lines.new (claims_reading version limits verdicts table rows.entry lines.old.left) }
 {
-    let claims = counted_parts(alloc, lines, None, b"claims")?;
+    let claims = next_counted_parts(alloc, lines, None, b"claims")?;
     next_end(lines)?;
     Ok(ProofFile {
         version,
@@ -122,19 +125,19 @@ fn behind_rows<'a>(
 }
 
 // The steps of the table, where one is `there`. Else there are none, and no line is taken.
-fn table(alloc: Global, lines: &mut Lines, there: bool) -> Result<Sequence<Step>, ProofFault>
+fn next_table(alloc: Global, lines: &mut Lines, there: bool) -> Result<Sequence<Step>, ProofFault>
     ensures { Reads result lines.old lines.new (table_reading there lines.old.left) }
 {
     if !there {
         return Ok(Sequence::from_vec(Vec::new(alloc)));
     }
     let count = next_count(lines, b"table")?;
-    table_steps(alloc, lines, count)
+    next_table_steps(alloc, lines, count)
 }
 
 // The line that counts the records, and the places of that many rows. Behind `shared` given lines those of
 // a table are numbered.
-fn counted_rows<'a>(
+fn next_counted_rows<'a>(
     alloc: Global,
     lines: &mut Lines<'a>,
     shared: Option<u64>,
@@ -146,7 +149,7 @@ fn counted_rows<'a>(
 }
 
 // The count behind this `word`, and as many parts.
-fn counted_parts<P: Part>(
+fn next_counted_parts<P: Part>(
     alloc: Global,
     lines: &mut Lines,
     shared: Option<u64>,
@@ -155,7 +158,7 @@ fn counted_parts<P: Part>(
     ensures { Reads result lines.old lines.new (counted_reading (count_in word.now) (P.reading shared) lines.old.left) }
 {
     let count = next_count(lines, word)?;
-    parts(alloc, lines, shared, count)
+    next_parts(alloc, lines, shared, count)
 }
 
 // The version that the first line tells.
@@ -163,22 +166,22 @@ fn next_version(lines: &mut Lines) -> Result<u32, ProofFault>
     ensures { Reads result lines.old lines.new (read_line version_in lines.old.left) }
 {
     let line = lines.next()?;
-    settle(lines, version(line))
+    settle(lines, read_version(line))
 }
 
 // The version of a line `fh-proof VERSION`. `Form` for any other line.
-fn version(line: &[u8]) -> Result<u32, Stop>
+fn read_version(line: &[u8]) -> Result<u32, Stop>
     ensures { ReadsAs result (version_in (split 32 line.now)) }
 {
     let mut words = Words::new(line);
     words.take_word(b"fh-proof")?;
-    let version = version_number(&mut words)?;
+    let version = take_version(&mut words)?;
     words.end()?;
     Ok(version)
 }
 
 // The number of a version, 1 or 2; `Form` for any other word.
-fn version_number(words: &mut Words) -> Result<u32, Stop>
+fn take_version(words: &mut Words) -> Result<u32, Stop>
     ensures { Takes result words.new (word_in version_said words.old) }
 {
     let Some(word) = words.next() else {
@@ -198,31 +201,31 @@ fn next_limits(lines: &mut Lines) -> Result<RunLimits, ProofFault>
     ensures { Reads result lines.old lines.new (read_line limits_in lines.old.left) }
 {
     let line = lines.next()?;
-    settle(lines, limits(line))
+    settle(lines, read_limits(line))
 }
 
 // The limits of a line `limit L near K budget W`. `Form` for any other line.
-fn limits(line: &[u8]) -> Result<RunLimits, Stop>
+fn read_limits(line: &[u8]) -> Result<RunLimits, Stop>
     ensures { ReadsAs result (limits_in (split 32 line.now)) }
 {
     let mut words = Words::new(line);
     words.take_word(b"limit")?;
     let limit = words.take_u32()?;
-    near_behind(&mut words, limit)
+    read_behind_limit(&mut words, limit)
 }
 
 // The limits of a line of which `limit` is read: how many donors a row ranks comes next, and then what
-// `budget_behind` reads.
-fn near_behind(words: &mut Words, limit: u32) -> Result<RunLimits, Stop>
+// `read_behind_near` reads.
+fn read_behind_limit(words: &mut Words, limit: u32) -> Result<RunLimits, Stop>
     ensures { ReadsAs result (near_behind limit words.old) }
 {
     words.take_word(b"near")?;
     let near = words.take_u32()?;
-    budget_behind(words, limit, near)
+    read_behind_near(words, limit, near)
 }
 
 // The limits of a line of which `limit` and `near` are read: how much work a search may take comes last.
-fn budget_behind(words: &mut Words, limit: u32, near: u32) -> Result<RunLimits, Stop>
+fn read_behind_near(words: &mut Words, limit: u32, near: u32) -> Result<RunLimits, Stop>
     ensures { ReadsAs result (budget_behind limit near words.old) }
 {
     words.take_word(b"budget")?;
@@ -240,11 +243,11 @@ fn next_count(lines: &mut Lines, word: &[u8]) -> Result<u64, ProofFault>
     ensures { Reads result lines.old lines.new (read_line (count_in word.now) lines.old.left) }
 {
     let line = lines.next()?;
-    settle(lines, count(line, word))
+    settle(lines, read_count(line, word))
 }
 
 // The count of a line that is this `word` and a number. `Form` for any other line.
-fn count(line: &[u8], word: &[u8]) -> Result<u64, Stop>
+fn read_count(line: &[u8], word: &[u8]) -> Result<u64, Stop>
     ensures { ReadsAs result (count_in word.now (split 32 line.now)) }
 {
     let mut words = Words::new(line);
@@ -259,11 +262,11 @@ fn next_end(lines: &mut Lines) -> Result<(), ProofFault>
     ensures { Reads result lines.old lines.new (read_line end_in lines.old.left) }
 {
     let line = lines.next()?;
-    settle(lines, end(line))
+    settle(lines, read_end(line))
 }
 
 // Ok where the line is the word `end` alone, and else `Form`.
-fn end(line: &[u8]) -> Result<(), Stop>
+fn read_end(line: &[u8]) -> Result<(), Stop>
     ensures { ReadsAs result (end_in (split 32 line.now)) }
 {
     let mut words = Words::new(line);

@@ -4,7 +4,7 @@ ghost use Rattle.std.specs.Prelude.{◌≡◌};
 use foundation::Sequence;
 
 /// The list of the elements, in no more memory than they take.
-pub(super) fn fitted<T: Drop>(mut items: Vec<T>) -> Sequence<T>
+pub(super) fn fit_list<T: Drop>(mut items: Vec<T>) -> Sequence<T>
     ensures { result ≡ items.items }
 {
     items.shrink_to_fit();

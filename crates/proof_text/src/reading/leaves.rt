@@ -10,7 +10,7 @@ ghost use Rattle.proof_grammar.specs.inner.LeafReading.{bad_in, behind_leaf, bou
 ghost use Rattle.proof_grammar.specs.inner.Readings.{Reads, read_line};
 ghost use Rattle.proof_grammar.specs.Words.{ReadsAs};
 
-use super::parts::{Part, parts};
+use super::parts::{Part, next_parts};
 use bound_cert::{Leaf, LeafWhy, Path};
 use proof_grammar::{LeafHead, Lines, ProofFault, Stop, Words, settle};
 use std::alloc::Global;
@@ -21,12 +21,12 @@ impl Part for Leaf {
     // The leaf whose lines are at the front: its head, and its steps where it has some.
     fn read(alloc: Global, lines: &mut Lines, shared: Option<u64>) -> Result<Leaf, ProofFault> {
         let head = next_head(alloc, lines)?;
-        behind_head(alloc, lines, shared, head)
+        read_behind_head(alloc, lines, shared, head)
     }
 }
 
 // The leaf whose `head` was read. As many steps as the head says are at the front, and are read here.
-fn behind_head(
+fn read_behind_head(
     alloc: Global,
     lines: &mut Lines,
     shared: Option<u64>,
@@ -43,14 +43,14 @@ fn behind_head(
             path,
             why: LeafWhy::BadKept,
         }),
-        LeafHead::LineAt(path, count) => match parts(alloc, lines, shared, count) {
+        LeafHead::LineAt(path, count) => match next_parts(alloc, lines, shared, count) {
             Ok(steps) => Ok(Leaf {
                 path,
                 why: LeafWhy::Line(steps),
             }),
             Err(fault) => Err(fault),
         },
-        LeafHead::BoxAt(path, count) => match parts(alloc, lines, shared, count) {
+        LeafHead::BoxAt(path, count) => match next_parts(alloc, lines, shared, count) {
             Ok(steps) => Ok(Leaf {
                 path,
                 why: LeafWhy::Box(steps),
@@ -65,12 +65,12 @@ fn next_head(alloc: Global, lines: &mut Lines) -> Result<LeafHead, ProofFault>
     ensures { Reads result lines.old lines.new (read_line leaf_in lines.old.left) }
 {
     let line = lines.next()?;
-    settle(lines, head(alloc, line))
+    settle(lines, read_head(alloc, line))
 }
 
 // The head of a leaf, by the first word of the line. `Form` for a word that begins no head, or where the
 // rest is not of its form.
-fn head(alloc: Global, line: &[u8]) -> Result<LeafHead, Stop>
+fn read_head(alloc: Global, line: &[u8]) -> Result<LeafHead, Stop>
     ensures { ReadsAs result (leaf_in (split 32 line.now)) }
 {
     let mut words = Words::new(line);
@@ -78,13 +78,13 @@ fn head(alloc: Global, line: &[u8]) -> Result<LeafHead, Stop>
         return Err(Stop::Form);
     };
     if kind == b"bound".as_slice() {
-        bound(alloc, &mut words)
+        read_bound_head(alloc, &mut words)
     } else if kind == b"bad".as_slice() {
-        bad(alloc, &mut words)
+        read_bad_head(alloc, &mut words)
     } else if kind == b"line".as_slice() {
-        by_line(alloc, &mut words)
+        read_line_head(alloc, &mut words)
     } else if kind == b"box".as_slice() {
-        by_box(alloc, &mut words)
+        read_box_head(alloc, &mut words)
     } else {
         Err(Stop::Form)
     }
@@ -92,7 +92,7 @@ fn head(alloc: Global, line: &[u8]) -> Result<LeafHead, Stop>
 
 // The head behind the word `bound`: a path, which weighs enough by itself. `Form` where the words are no
 // path alone.
-fn bound(alloc: Global, words: &mut Words) -> Result<LeafHead, Stop>
+fn read_bound_head(alloc: Global, words: &mut Words) -> Result<LeafHead, Stop>
     ensures { ReadsAs result (bound_in words.old) }
 {
     let path = words.take_path(alloc)?;
@@ -102,7 +102,7 @@ fn bound(alloc: Global, words: &mut Words) -> Result<LeafHead, Stop>
 
 // The head behind the word `bad`: a path, which keeps a field without a value. `Form` where the words are
 // no path alone.
-fn bad(alloc: Global, words: &mut Words) -> Result<LeafHead, Stop>
+fn read_bad_head(alloc: Global, words: &mut Words) -> Result<LeafHead, Stop>
     ensures { ReadsAs result (bad_in words.old) }
 {
     let path = words.take_path(alloc)?;
@@ -112,7 +112,7 @@ fn bad(alloc: Global, words: &mut Words) -> Result<LeafHead, Stop>
 
 // The head behind the word `line`: a path that a line refutes, and how many steps behind the head prove
 // the line. `Form` where the words are not these two.
-fn by_line(alloc: Global, words: &mut Words) -> Result<LeafHead, Stop>
+fn read_line_head(alloc: Global, words: &mut Words) -> Result<LeafHead, Stop>
     ensures { ReadsAs result (line_in words.old) }
 {
     let path = words.take_path(alloc)?;
@@ -123,7 +123,7 @@ fn by_line(alloc: Global, words: &mut Words) -> Result<LeafHead, Stop>
 
 // The head behind the word `box`: a path that a box refutes, and how many steps behind the head prove the
 // box. `Form` where the words are not these two.
-fn by_box(alloc: Global, words: &mut Words) -> Result<LeafHead, Stop>
+fn read_box_head(alloc: Global, words: &mut Words) -> Result<LeafHead, Stop>
     ensures { ReadsAs result (box_in words.old) }
 {
     let path = words.take_path(alloc)?;

@@ -6,7 +6,7 @@ ghost use Rattle.std.specs.Prelude.{◌≡◌};
 ghost use Rattle.proof_grammar.specs.Words.{ReadsAs, named_long, named_short};
 ghost use Rattle.proof_grammar.specs.inner.WordLists.{all_in};
 
-use super::fitted::fitted;
+use super::fitted::fit_list;
 use foundation::Sequence;
 use proof_grammar::{Stop, Words, read_named_u32, read_named_u64};
 use std::alloc::Global;
@@ -43,7 +43,7 @@ impl Named for u32 {
 
 /// The numbers that all words behind name, to the end of the line. `Form` where a word names none; no words
 /// give no numbers.
-pub(super) fn all_named<N: Named>(alloc: Global, words: &mut Words) -> Result<Sequence<N>, Stop>
+pub(super) fn read_names<N: Named>(alloc: Global, words: &mut Words) -> Result<Sequence<N>, Stop>
     ensures { ReadsAs result (all_in N.named words.old) }
 {
     let mut numbers = Vec::new(alloc);
@@ -55,5 +55,5 @@ pub(super) fn all_named<N: Named>(alloc: Global, words: &mut Words) -> Result<Se
             return Err(Stop::OutOfMemory);
         };
     }
-    Ok(fitted(numbers))
+    Ok(fit_list(numbers))
 }

@@ -8,7 +8,7 @@
 //! line that can't go on.
 ghost use Rattle.proof_grammar.specs.inner.Readings.{Reads, read_many};
 
-use super::fitted::fitted;
+use super::fitted::fit_list;
 use foundation::Sequence;
 use proof_grammar::{Lines, ProofFault};
 use std::alloc::Global;
@@ -29,7 +29,7 @@ pub(super) trait Part: Sized + Drop {
 
 /// `count` parts, one after another. The first fault of a part ends the call. Memory is taken for each
 /// part when its lines were read, whatever the count says.
-pub(super) fn parts<P: Part>(
+pub(super) fn next_parts<P: Part>(
     alloc: Global,
     lines: &mut Lines,
     shared: Option<u64>,
@@ -47,5 +47,5 @@ pub(super) fn parts<P: Part>(
             return Err(ProofFault::OutOfMemory);
         };
     }
-    Ok(fitted(parts))
+    Ok(fit_list(parts))
 }

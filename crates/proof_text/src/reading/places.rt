@@ -9,7 +9,7 @@ ghost use Rattle.proof_grammar.specs.inner.Readings.{Reads, read_many};
 ghost use Rattle.proof_grammar.specs.inner.RowReading.{row_reading};
 ghost use Rattle.proof_text.specs.Changes.{change_weight};
 
-use super::fitted::fitted;
+use super::fitted::fit_list;
 use super::rows::next_row;
 use bound_cert::{GiftFault, Outcome, RowProof};
 use foundation::{OutOfMemory, Sequence};
@@ -89,7 +89,7 @@ pub(super) fn next_places<'a>(
             return Err(ProofFault::OutOfMemory);
         };
     }
-    Ok(fitted(places))
+    Ok(fit_list(places))
 }
 
 // The place of the row at the front. The row is read and dropped, and its lines are taken.

@@ -13,7 +13,7 @@ ghost use Rattle.proof_grammar.specs.inner.RowReading.{WeighsLong, behind_row, b
 ghost use Rattle.proof_grammar.specs.inner.RowReading.{gift_fault_in, gift_in, row_in, row_reading, step_event_in, test_event_in};
 ghost use Rattle.proof_grammar.specs.Words.{ReadsAs, Takes};
 
-use super::parts::parts;
+use super::parts::next_parts;
 use bound_cert::{Cert, Event, GiftFault, Leaf, LeafWhy, Outcome, Path, RowProof};
 use foundation::Sequence;
 use proof_grammar::{Lines, ProofFault, RowHead, Stop, Words, settle};
@@ -28,12 +28,12 @@ pub(super) fn next_row(
     ensures { Reads result lines.old lines.new (row_reading shared lines.old.left) }
 {
     let head = next_head(alloc, lines)?;
-    behind_head(alloc, lines, shared, head)
+    read_behind_head(alloc, lines, shared, head)
 }
 
 // The row whose `head` was read. As many leaves as the head says are at the front, and are read here. A
 // change's head holds one less than the weight, and one more than that fits 64 bits (`WeighsLong`).
-fn behind_head(
+fn read_behind_head(
     alloc: Global,
     lines: &mut Lines,
     shared: Option<u64>,
@@ -44,7 +44,7 @@ fn behind_head(
 {
     match head {
         RowHead::CleanAt => clean_row(alloc),
-        RowHead::ChangeAt(less, path, count) => match parts(alloc, lines, shared, count) {
+        RowHead::ChangeAt(less, path, count) => match next_parts(alloc, lines, shared, count) {
             Ok(leaves) => Ok(RowProof {
                 outcome: Outcome::Change {
                     path,
@@ -55,17 +55,19 @@ fn behind_head(
             }),
             Err(fault) => Err(fault),
         },
-        RowHead::GiftAt(weight, path, gift, count) => match parts(alloc, lines, shared, count) {
-            Ok(leaves) => Ok(RowProof {
-                outcome: Outcome::Change {
-                    path,
-                    weight,
-                    cert: Cert { leaves },
-                },
-                gift: Some(gift),
-            }),
-            Err(fault) => Err(fault),
-        },
+        RowHead::GiftAt(weight, path, gift, count) => {
+            match next_parts(alloc, lines, shared, count) {
+                Ok(leaves) => Ok(RowProof {
+                    outcome: Outcome::Change {
+                        path,
+                        weight,
+                        cert: Cert { leaves },
+                    },
+                    gift: Some(gift),
+                }),
+                Err(fault) => Err(fault),
+            }
+        }
         RowHead::BudgetAt(path, work) => Ok(RowProof {
             outcome: Outcome::Budget { path, work },
             gift: None,
@@ -74,7 +76,7 @@ fn behind_head(
             outcome: Outcome::Overflow { path, event },
             gift: None,
         }),
-        RowHead::ContradictoryAt(count) => match parts(alloc, lines, shared, count) {
+        RowHead::ContradictoryAt(count) => match next_parts(alloc, lines, shared, count) {
             Ok(leaves) => Ok(RowProof {
                 outcome: Outcome::Contradictory {
                     cert: Cert { leaves },
@@ -92,12 +94,12 @@ fn next_head(alloc: Global, lines: &mut Lines) -> Result<RowHead, ProofFault>
     ensures fits { IfOk result WeighsLong }
 {
     let line = lines.next()?;
-    settle(lines, head(alloc, line))
+    settle(lines, read_head(alloc, line))
 }
 
 // The head of a row, by the first word of the line. `Form` for a word that begins no head, or where the
 // rest is not of its form.
-fn head(alloc: Global, line: &[u8]) -> Result<RowHead, Stop>
+fn read_head(alloc: Global, line: &[u8]) -> Result<RowHead, Stop>
     ensures read { ReadsAs result (row_in (split 32 line.now)) }
     ensures fits { IfOk result WeighsLong }
 {
@@ -109,17 +111,17 @@ fn head(alloc: Global, line: &[u8]) -> Result<RowHead, Stop>
         words.end()?;
         Ok(RowHead::CleanAt)
     } else if kind == b"change".as_slice() {
-        change(alloc, &mut words)
+        read_change_head(alloc, &mut words)
     } else if kind == b"gift".as_slice() {
-        gift(alloc, &mut words)
+        read_gift_head(alloc, &mut words)
     } else if kind == b"budget".as_slice() {
-        budget(alloc, &mut words)
+        read_budget_head(alloc, &mut words)
     } else if kind == b"step".as_slice() {
-        step_event(alloc, &mut words)
+        read_step_head(alloc, &mut words)
     } else if kind == b"test".as_slice() {
-        test_event(alloc, &mut words)
+        read_test_head(alloc, &mut words)
     } else if kind == b"contradictory".as_slice() {
-        contradictory(&mut words)
+        read_contradictory_head(&mut words)
     } else {
         Err(Stop::Form)
     }
@@ -127,7 +129,7 @@ fn head(alloc: Global, line: &[u8]) -> Result<RowHead, Stop>
 
 // The head behind the word `change`, of a change whose values were all given: the weight, from 1, the
 // path, and how many leaves follow. The weight is held as one less. `Form` where the words are not these.
-fn change(alloc: Global, words: &mut Words) -> Result<RowHead, Stop>
+fn read_change_head(alloc: Global, words: &mut Words) -> Result<RowHead, Stop>
     ensures read { ReadsAs result (change_in words.old) }
     ensures fits { IfOk result WeighsLong }
 {
@@ -140,13 +142,13 @@ fn change(alloc: Global, words: &mut Words) -> Result<RowHead, Stop>
 
 // The head behind the word `gift`, of a change without values, since a number left the range while they
 // were given. The words are the weight, the path, which number that was, and how many leaves follow.
-fn gift(alloc: Global, words: &mut Words) -> Result<RowHead, Stop>
+fn read_gift_head(alloc: Global, words: &mut Words) -> Result<RowHead, Stop>
     ensures read { ReadsAs result (gift_in words.old) }
     ensures fits { IfOk result WeighsLong }
 {
     let weight = words.take_u64()?;
     let path = words.take_path(alloc)?;
-    let fault = gift_fault(words)?;
+    let fault = take_gift_fault(words)?;
     let count = words.take_u64()?;
     words.end()?;
     Ok(RowHead::GiftAt(weight, path, fault, count))
@@ -154,7 +156,7 @@ fn gift(alloc: Global, words: &mut Words) -> Result<RowHead, Stop>
 
 // Which number left the range while values were given. Words of a field and a line: that of a bound of the
 // field by the line. Words of 0 and a rule: that of the rule's test.
-fn gift_fault(words: &mut Words) -> Result<GiftFault, Stop>
+fn take_gift_fault(words: &mut Words) -> Result<GiftFault, Stop>
     ensures { Takes result words.new (gift_fault_in words.old) }
 {
     match words.take_named_u32_or_none()? {
@@ -171,7 +173,7 @@ fn gift_fault(words: &mut Words) -> Result<GiftFault, Stop>
 
 // The head behind the word `budget`, of a search that ended at its budget. The words are the path before
 // which it ended, and its work.
-fn budget(alloc: Global, words: &mut Words) -> Result<RowHead, Stop>
+fn read_budget_head(alloc: Global, words: &mut Words) -> Result<RowHead, Stop>
     ensures read { ReadsAs result (budget_in words.old) }
     ensures fits { IfOk result WeighsLong }
 {
@@ -183,7 +185,7 @@ fn budget(alloc: Global, words: &mut Words) -> Result<RowHead, Stop>
 
 // The head behind the word `step`: a number left the range when two lines were combined. The words are the
 // path, the two lines, and the place of the number in the combination.
-fn step_event(alloc: Global, words: &mut Words) -> Result<RowHead, Stop>
+fn read_step_head(alloc: Global, words: &mut Words) -> Result<RowHead, Stop>
     ensures read { ReadsAs result (step_event_in words.old) }
     ensures fits { IfOk result WeighsLong }
 {
@@ -204,7 +206,7 @@ fn step_event(alloc: Global, words: &mut Words) -> Result<RowHead, Stop>
 
 // The head behind the word `test`: a number left the range when a line was tested at the record. The words
 // are the path, the line, and the field.
-fn test_event(alloc: Global, words: &mut Words) -> Result<RowHead, Stop>
+fn read_test_head(alloc: Global, words: &mut Words) -> Result<RowHead, Stop>
     ensures read { ReadsAs result (test_event_in words.old) }
     ensures fits { IfOk result WeighsLong }
 {
@@ -216,7 +218,7 @@ fn test_event(alloc: Global, words: &mut Words) -> Result<RowHead, Stop>
 }
 
 // The head behind the word `contradictory`, of a record that no change corrects: how many leaves follow.
-fn contradictory(words: &mut Words) -> Result<RowHead, Stop>
+fn read_contradictory_head(words: &mut Words) -> Result<RowHead, Stop>
     ensures read { ReadsAs result (contradictory_in words.old) }
     ensures fits { IfOk result WeighsLong }
 {

@@ -11,8 +11,8 @@ ghost use Rattle.proof_grammar.specs.inner.StepReading.{shared_in, shared_step_i
 ghost use Rattle.proof_grammar.specs.inner.Readings.{Reads, read_line, read_many};
 ghost use Rattle.proof_grammar.specs.Words.{ReadsAs};
 
-use super::fitted::fitted;
-use super::names::all_named;
+use super::fitted::fit_list;
+use super::names::read_names;
 use super::parts::Part;
 use derivation::Step;
 use foundation::Sequence;
@@ -25,13 +25,13 @@ impl Part for Step {
     // The step whose line is at the front.
     fn read(alloc: Global, lines: &mut Lines, shared: Option<u64>) -> Result<Step, ProofFault> {
         let line = lines.next()?;
-        settle(lines, leaf_step(alloc, line, shared))
+        settle(lines, read_leaf_step(alloc, line, shared))
     }
 }
 
 /// `count` steps of a table, one after another. They are read apart from those of leaves, since each of
 /// them gives a line. The first fault ends the call.
-pub(super) fn table_steps(
+pub(super) fn next_table_steps(
     alloc: Global,
     lines: &mut Lines,
     count: u64,
@@ -48,7 +48,7 @@ pub(super) fn table_steps(
             return Err(ProofFault::OutOfMemory);
         };
     }
-    Ok(fitted(steps))
+    Ok(fit_list(steps))
 }
 
 // The step of the next line of a table.
@@ -56,11 +56,11 @@ fn next_table_step(lines: &mut Lines) -> Result<Step, ProofFault>
     ensures { Reads result lines.old lines.new (read_line table_step_in lines.old.left) }
 {
     let line = lines.next()?;
-    settle(lines, table_step(line))
+    settle(lines, read_table_step(line))
 }
 
 // The step of a line of a table: `given` or `combine`. `Form` for any other word.
-fn table_step(line: &[u8]) -> Result<Step, Stop>
+fn read_table_step(line: &[u8]) -> Result<Step, Stop>
     ensures { ReadsAs result (table_step_in (split 32 line.now)) }
 {
     let mut words = Words::new(line);
@@ -68,9 +68,9 @@ fn table_step(line: &[u8]) -> Result<Step, Stop>
         return Err(Stop::Form);
     };
     if kind == b"given".as_slice() {
-        given_line(&mut words)
+        read_given(&mut words)
     } else if kind == b"combine".as_slice() {
-        combine(&mut words)
+        read_combine(&mut words)
     } else {
         Err(Stop::Form)
     }
@@ -78,18 +78,18 @@ fn table_step(line: &[u8]) -> Result<Step, Stop>
 
 // The step of a line behind a leaf or a verdict. The word `shared` may begin it only where there is a
 // table, which is where `shared` is Some.
-fn leaf_step(alloc: Global, line: &[u8], shared: Option<u64>) -> Result<Step, Stop>
+fn read_leaf_step(alloc: Global, line: &[u8], shared: Option<u64>) -> Result<Step, Stop>
     ensures { ReadsAs result (leaf_step_in shared (split 32 line.now)) }
 {
     match shared {
-        None => step(alloc, line),
-        Some(count) => shared_step(alloc, line, count),
+        None => read_step(alloc, line),
+        Some(count) => read_step_with_table(alloc, line, count),
     }
 }
 
 // The step of a line behind a leaf, in a file with a table behind `count` lines of the rules. `Form` for a
 // word that begins no step.
-fn shared_step(alloc: Global, line: &[u8], count: u64) -> Result<Step, Stop>
+fn read_step_with_table(alloc: Global, line: &[u8], count: u64) -> Result<Step, Stop>
     ensures { ReadsAs result (shared_step_in count (split 32 line.now)) }
 {
     let mut words = Words::new(line);
@@ -97,17 +97,17 @@ fn shared_step(alloc: Global, line: &[u8], count: u64) -> Result<Step, Stop>
         return Err(Stop::Form);
     };
     if kind == b"given".as_slice() {
-        given_of_rules(&mut words, count)
+        read_given_of_rules(&mut words, count)
     } else if kind == b"shared".as_slice() {
-        shared_line(&mut words, count)
+        read_shared(&mut words, count)
     } else if kind == b"combine".as_slice() {
-        combine(&mut words)
+        read_combine(&mut words)
     } else if kind == b"fail".as_slice() {
-        fail(&mut words)
+        read_fail(&mut words)
     } else if kind == b"cover".as_slice() {
-        cover(alloc, &mut words)
+        read_cover(alloc, &mut words)
     } else if kind == b"fix".as_slice() {
-        fix(&mut words)
+        read_fix(&mut words)
     } else {
         Err(Stop::Form)
     }
@@ -115,7 +115,7 @@ fn shared_step(alloc: Global, line: &[u8], count: u64) -> Result<Step, Stop>
 
 // A given line of the rules. `Form` where it is past their `count`, since a line of the table is named by
 // `shared`.
-fn given_of_rules(words: &mut Words, count: u64) -> Result<Step, Stop>
+fn read_given_of_rules(words: &mut Words, count: u64) -> Result<Step, Stop>
     ensures { ReadsAs result (few_given_in count words.old) }
 {
     let place = words.take_named_u64()?;
@@ -128,7 +128,7 @@ fn given_of_rules(words: &mut Words, count: u64) -> Result<Step, Stop>
 
 // The step behind the word `shared`: a line of the table. It is held as the given line that is numbered
 // behind the `count` lines of the rules. `Form` where that number passes 64 bits.
-fn shared_line(words: &mut Words, count: u64) -> Result<Step, Stop>
+fn read_shared(words: &mut Words, count: u64) -> Result<Step, Stop>
     ensures { ReadsAs result (shared_in count words.old) }
 {
     let place = words.take_named_u64()?;
@@ -140,7 +140,7 @@ fn shared_line(words: &mut Words, count: u64) -> Result<Step, Stop>
 }
 
 // The step of a line, in a file without a table or behind a verdict. `Form` for a word that begins no step.
-fn step(alloc: Global, line: &[u8]) -> Result<Step, Stop>
+fn read_step(alloc: Global, line: &[u8]) -> Result<Step, Stop>
     ensures { ReadsAs result (step_in (split 32 line.now)) }
 {
     let mut words = Words::new(line);
@@ -148,22 +148,22 @@ fn step(alloc: Global, line: &[u8]) -> Result<Step, Stop>
         return Err(Stop::Form);
     };
     if kind == b"given".as_slice() {
-        given_line(&mut words)
+        read_given(&mut words)
     } else if kind == b"combine".as_slice() {
-        combine(&mut words)
+        read_combine(&mut words)
     } else if kind == b"fail".as_slice() {
-        fail(&mut words)
+        read_fail(&mut words)
     } else if kind == b"cover".as_slice() {
-        cover(alloc, &mut words)
+        read_cover(alloc, &mut words)
     } else if kind == b"fix".as_slice() {
-        fix(&mut words)
+        read_fix(&mut words)
     } else {
         Err(Stop::Form)
     }
 }
 
 // The step behind the word `given`: the name of a given line, and nothing more.
-fn given_line(words: &mut Words) -> Result<Step, Stop>
+fn read_given(words: &mut Words) -> Result<Step, Stop>
     ensures { ReadsAs result (given_in words.old) }
 {
     let place = words.take_named_u64()?;
@@ -173,7 +173,7 @@ fn given_line(words: &mut Words) -> Result<Step, Stop>
 
 // The step behind the word `combine`, whose words are a, m, b, n and g. It gives m times the line of step
 // a and n times that of step b, added and divided by g.
-fn combine(words: &mut Words) -> Result<Step, Stop>
+fn read_combine(words: &mut Words) -> Result<Step, Stop>
     ensures { ReadsAs result (combine_in words.old) }
 {
     let a = words.take_named_u64()?;
@@ -186,7 +186,7 @@ fn combine(words: &mut Words) -> Result<Step, Stop>
 }
 
 // The step behind the word `fail`: the name of a step whose line fails at the record, and becomes a box.
-fn fail(words: &mut Words) -> Result<Step, Stop>
+fn read_fail(words: &mut Words) -> Result<Step, Stop>
     ensures { ReadsAs result (fail_in words.old) }
 {
     let place = words.take_named_u64()?;
@@ -195,16 +195,16 @@ fn fail(words: &mut Words) -> Result<Step, Stop>
 }
 
 // The step behind the word `cover`: a field, and the steps whose boxes cover it, to the end of the line.
-fn cover(alloc: Global, words: &mut Words) -> Result<Step, Stop>
+fn read_cover(alloc: Global, words: &mut Words) -> Result<Step, Stop>
     ensures { ReadsAs result (cover_in words.old) }
 {
     let field = words.take_named_u32()?;
-    let parts = all_named(alloc, words)?;
+    let parts = read_names(alloc, words)?;
     Ok(Step::Cover { field, parts })
 }
 
 // The step behind the word `fix`: a kept field, and the step whose box has the record's code there.
-fn fix(words: &mut Words) -> Result<Step, Stop>
+fn read_fix(words: &mut Words) -> Result<Step, Stop>
     ensures { ReadsAs result (fix_in words.old) }
 {
     let field = words.take_named_u32()?;

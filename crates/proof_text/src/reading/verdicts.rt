@@ -10,7 +10,7 @@ ghost use Rattle.proof_grammar.specs.inner.FileReading.{behind_verdict, verdict_
 ghost use Rattle.proof_grammar.specs.inner.Readings.{Reads, read_line};
 ghost use Rattle.proof_grammar.specs.Words.{ReadsAs};
 
-use super::parts::{Part, parts};
+use super::parts::{Part, next_parts};
 use derivation::Step;
 use foundation::Sequence;
 use proof_grammar::{Lines, ProofFault, Stop, Words, settle};
@@ -26,13 +26,13 @@ impl Part for Option<Sequence<Step>> {
         _shared: Option<u64>,
     ) -> Result<Option<Sequence<Step>>, ProofFault> {
         let head = next_head(lines)?;
-        behind_head(alloc, lines, head)
+        read_behind_head(alloc, lines, head)
     }
 }
 
 // The verdict whose `head` was read. It says how many steps are at the front, which are read here, or is
 // None for a line that is kept. The steps of verdicts name no line of a table.
-fn behind_head(
+fn read_behind_head(
     alloc: Global,
     lines: &mut Lines,
     head: Option<u64>,
@@ -41,7 +41,7 @@ fn behind_head(
 {
     match head {
         None => Ok(None),
-        Some(count) => match parts(alloc, lines, None, count) {
+        Some(count) => match next_parts(alloc, lines, None, count) {
             Ok(steps) => Ok(Some(steps)),
             Err(fault) => Err(fault),
         },
@@ -53,12 +53,12 @@ fn next_head(lines: &mut Lines) -> Result<Option<u64>, ProofFault>
     ensures { Reads result lines.old lines.new (read_line verdict_in lines.old.left) }
 {
     let line = lines.next()?;
-    settle(lines, head(line))
+    settle(lines, read_head(line))
 }
 
 // The head of a verdict: how many steps follow `drop`, or None for `keep`, a line that is kept. `Form` for
 // any other line.
-fn head(line: &[u8]) -> Result<Option<u64>, Stop>
+fn read_head(line: &[u8]) -> Result<Option<u64>, Stop>
     ensures { ReadsAs result (verdict_in (split 32 line.now)) }
 {
     let mut words = Words::new(line);

@@ -2,7 +2,7 @@ use Rattle.std.proofs.Common.{◌≡◌, ◌-◌}
 use Rattle.proof_grammar.specs.inner.Readings.{read_line, read_many}
 use Rattle.proof_grammar.specs.inner.StepReading.{table_step_in}
 use Rattle.proof_text.proofs.ReadingLaws.{onto}
-use Rattle.proof_text.proofs.reading.steps.table_steps.Given as goal
+use Rattle.proof_text.proofs.reading.steps.next_table_steps.Given as goal
 
 abbrev pub invariant-loop : goal.invariant-loop
 invariant-loop l =

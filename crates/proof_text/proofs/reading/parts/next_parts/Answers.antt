@@ -1,6 +1,6 @@
 use Rattle.std.proofs.Common.{◌+◌, ◌-◌, ◌∙◌, arith}
 use Rattle.proof_text.proofs.ReadingLaws.{many-fails, many-kept}
-use Rattle.proof_text.proofs.reading.parts.parts.Goals as goal
+use Rattle.proof_text.proofs.reading.parts.next_parts.Goals as goal
 
 pub returns-in-Err : goal.returns-in-Err
 returns-in-Err g c =

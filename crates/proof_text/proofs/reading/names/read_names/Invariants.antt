@@ -1,7 +1,7 @@
 use Rattle.std.proofs.Common.{◌≡◌, length}
 use Rattle.proof_grammar.specs.inner.WordLists.{all_in}
 use Rattle.proof_text.proofs.ReadingLaws.{appended}
-use Rattle.proof_text.proofs.reading.names.all_named.Given as goal
+use Rattle.proof_text.proofs.reading.names.read_names.Given as goal
 
 abbrev pub decreases-loop-word : goal.decreases-loop-word
 decreases-loop-word g l = length l.words

@@ -2,7 +2,7 @@ use Rattle.std.proofs.Common.{◌+◌, ◌-◌, ◌∙◌, arith}
 use Rattle.proof_grammar.specs.inner.Readings.{read_line}
 use Rattle.proof_grammar.specs.inner.StepReading.{table_step_in}
 use Rattle.proof_text.proofs.ReadingLaws.{many-fails, many-kept}
-use Rattle.proof_text.proofs.reading.steps.table_steps.Goals as goal
+use Rattle.proof_text.proofs.reading.steps.next_table_steps.Goals as goal
 
 pub returns-in-Err : goal.returns-in-Err
 returns-in-Err c =
