@@ -11,7 +11,7 @@ ghost use Rattle.cert_check.specs.Releases.{IfRejected, IsFirstFailure, IsReleas
 ghost use Rattle.cert_check.specs.Shown.{Shows};
 
 use crate::fault::{CheckFault, Why};
-use crate::said_check::{Audit, check_said, rejected};
+use crate::said_check::{Audit, check_said, rejection};
 use edit_model::Survey;
 use proof_text::{ProofFault, open_proof};
 use record_text::Sheet;
@@ -43,7 +43,7 @@ pub fn check_all(
     };
     match open_proof(alloc, proof) {
         Ok(said) => check_said(alloc, &audit, &said, proof.len()),
-        Err(ProofFault::At { line }) => Err(rejected(line, Why::Grammar)),
+        Err(ProofFault::At { line }) => Err(rejection(line, Why::Grammar)),
         Err(ProofFault::OutOfMemory) => Err(CheckFault::OutOfMemory),
     }
 }

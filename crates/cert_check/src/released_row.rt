@@ -22,7 +22,7 @@ use std::alloc::Global;
 /// Whether the right texts are released for the record, of which `path` changes some fields or none. These
 /// are the texts that were read, but at changed fields others, with which the record is clean. They aren't
 /// right where the released file has no row for the record.
-pub(crate) fn is_released(
+pub(crate) fn has_right_row(
     alloc: Global,
     checking: &Checking,
     files: &RowAt,

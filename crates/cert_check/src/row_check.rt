@@ -14,7 +14,7 @@ ghost use Rattle.cert_check.specs.inner.RowFaults.{FindsInCert, FindsInChange, F
 
 use crate::checking::{Checking, RowAt};
 use crate::fault::Why;
-use crate::released_row::is_released;
+use crate::released_row::has_right_row;
 use crate::said::{event_exists, gift_exists, is_change};
 use crate::tree_check::tree_fault;
 use bound_cert::{Cert, GiftFault, Outcome, Path, RowProof};
@@ -80,7 +80,7 @@ fn change_fault(
             why: Why::Cert,
         })),
         None => {
-            if is_released(alloc, checking, files, path.letters())? {
+            if has_right_row(alloc, checking, files, path.letters())? {
                 Ok(None)
             } else {
                 Ok(Some(RowFault {

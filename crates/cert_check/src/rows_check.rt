@@ -53,7 +53,7 @@ pub(crate) fn rows_fault(
             }));
         }
         offset += row_line_count(&said);
-        next = behind(place, released, next);
+        next = next_released_row(place, released, next);
     }
     Ok(None)
 }
@@ -91,7 +91,7 @@ fn texts_at<'a>(place: &RowPlace, released: &'a Sheet, next: u32) -> Option<&'a 
 
 // The place of the next released row once this record is checked: one further where the record took the row
 // at `next`.
-fn behind(place: &RowPlace, released: &Sheet, next: u32) -> u32
+fn next_released_row(place: &RowPlace, released: &Sheet, next: u32) -> u32
     ensures { drop result released.now.row_texts ≡ behind place.now (drop next released.now.row_texts) }
 {
     if is_released(place) && next < released.len() {

@@ -59,14 +59,14 @@ pub(crate) fn check_said(
     let _ = bytes; // no proof has more lines than 64 bits count
     let mut lines = lines_of_rules(alloc, audit.rules)?;
     if let Some(line) = head_fault(said, &lines, audit.records.len()) {
-        return Err(rejected(line, Why::Head));
+        return Err(rejection(line, Why::Head));
     }
     if let Some(line) = drop_fault(alloc, audit.rules, &mut lines, said)? {
-        return Err(rejected(line, Why::Drop));
+        return Err(rejection(line, Why::Drop));
     }
     let mut usable = kept_flags(alloc, said.verdicts())?;
     if let Some(line) = table_fault(alloc, audit.rules, &mut lines, &mut usable, said)? {
-        return Err(rejected(line, Why::Table));
+        return Err(rejection(line, Why::Table));
     }
     check_records(alloc, audit, &lines, &usable, said)
 }
@@ -94,7 +94,7 @@ fn check_records(
     let saids = said.rows();
     let count = released_count(saids);
     let Some(released) = released_rows(alloc, audit.records.header(), audit.released, count)? else {
-        return Err(rejected(0, Why::RowText));
+        return Err(rejection(0, Why::RowText));
     };
     let checking = Checking {
         survey: audit.rules,
@@ -104,16 +104,16 @@ fn check_records(
         budget: said.budget(),
     };
     if let Some(fault) = rows_fault(alloc, &checking, saids, audit.records, &released)? {
-        return Err(rejected(records_line(said) + 1 + fault.offset, fault.why));
+        return Err(rejection(records_line(said) + 1 + fault.offset, fault.why));
     }
     if let Some(line) = claims_fault(alloc, audit.rules, audit.records, said)? {
-        return Err(rejected(line, Why::Claims));
+        return Err(rejection(line, Why::Claims));
     }
     Ok(count)
 }
 
 /// The refusal of the files for the condition `why`, which fails at this line of the proof.
-pub(crate) fn rejected(line: u64, why: Why) -> CheckFault
+pub(crate) fn rejection(line: u64, why: Why) -> CheckFault
     ensures { result ≡ faults.Rejected line why }
 {
     CheckFault::Rejected { line, why }

@@ -59,6 +59,6 @@ loop-row_no-preserved c =
       rw (c.row_line_count-offset.ensures, c.in_ok-said.ensures) (goes-more (rules_in c.args.checking.now) c.args.saids.now c.args.records.now.row_texts
           c.args.records.now.rows c.args.released.now.row_texts c.loop-row_no.row_no c.loop-row_no.next c.loop-row_no.offset c.loop-row_no.invariant.0 below
           c.requires.one_each also
-          c.index-saids-row_no.result c.index-saids-row_no.is c.behind-next.result valid c.behind-next.ensures),
+          c.index-saids-row_no.result c.index-saids-row_no.is c.next_released_row-next.result valid c.next_released_row-next.ensures),
       omega (arith, more, c.row_line_count-offset.ensures, c.loop-row_no.invariant.1, ap (λ (r : RowProof). length (row_lines r)) c.in_ok-said.ensures),
     )

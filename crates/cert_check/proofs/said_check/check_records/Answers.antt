@@ -26,7 +26,7 @@ pub returns-in_default : goal.returns-in_default
 returns-in_default c = λ bytes spelled.
     let a = audit_in c.args.audit.now bytes in
     let none = rw (c.in_default.is, c.header.ensures, c.released_count-count.ensures, c.rows-saids.ensures) at c.in_ok-released.ensures.none in
-    rw c.rejected.ensures (file-answers a c.args.said.now spelled (c.requires.head bytes) c.requires.dropped c.requires.table c.requires.sheet.0
+    rw c.rejection.ensures (file-answers a c.args.said.now spelled (c.requires.head bytes) c.requires.dropped c.requires.table c.requires.sheet.0
     c.requires.sheet.1 none)
 
 pub rows_fault-requires-clause-checking : goal.rows_fault-requires-clause-checking
@@ -75,7 +75,7 @@ returns-in-Some-2 c = λ bytes spelled.
     let a = audit_in c.args.audit.now bytes in
     let are = rw (c.in-Some.is, c.header.ensures, c.released_count-count.ensures, c.rows-saids.ensures) at c.in_ok-released.ensures.some in
     let found = rw (c.in-Some-2.is, c.rows-saids.ensures, c.requires.lines, c.requires.usable, c.columns.ensures, c.budget.ensures) at c.in_ok-fault.ensures in
-    rw (c.rejected-in-Some-2.ensures, c.records_line.ensures)
+    rw (c.rejection-in-Some-2.ensures, c.records_line.ensures)
     (record-answers a c.args.said.now spelled (c.requires.head bytes) c.requires.dropped c.requires.table c.requires.sheet.0 c.requires.sheet.1
     c.in-Some.released.row_texts are c.in-Some-2.fault.offset c.in-Some-2.fault.why found.0 found.1)
 
@@ -92,7 +92,7 @@ returns-in-Some-3 c = λ bytes spelled.
     let valid = rw (c.in_default-2.is, c.rows-saids.ensures, c.requires.lines, c.requires.usable, c.columns.ensures, c.budget.ensures) at
     c.in_ok-fault.ensures in
     let found = rw c.in-Some-3.is at c.in_ok-line.ensures in
-    rw c.rejected-in-Some-3.ensures
+    rw c.rejection-in-Some-3.ensures
     (claims-answers a c.args.said.now spelled (c.requires.head bytes) c.requires.dropped c.requires.table c.requires.sheet.0 c.requires.sheet.1
     c.in-Some.released.row_texts are valid c.in-Some-3.line found)
 

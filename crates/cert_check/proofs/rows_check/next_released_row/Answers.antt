@@ -1,6 +1,6 @@
 use Rattle.std.proofs.Common.{sym, subst, ℕ, ◌<◌, ◌∙◌}
 use Rattle.cert_check.proofs.RowsLoop.{behind-there}
-use Rattle.cert_check.proofs.rows_check.behind.Goals as goal
+use Rattle.cert_check.proofs.rows_check.next_released_row.Goals as goal
 
 pub returns-then-next-len : goal.returns-then-next-len
 returns-then-next-len c =

@@ -5,7 +5,7 @@ use Rattle.std.proofs.lemmas.Result.{IfOk-weaker}
 use Rattle.cert_check.specs.RowChecks.{AreReleasedTexts}
 use Rattle.cert_check.specs.inner.Checks.{GivesClean, files_in, rules_in}
 use Rattle.cert_check.proofs.ReleasedLaws.{gives-released, gives-clean, released-gives, clean-gives}
-use Rattle.cert_check.proofs.released_row.is_released.Goals as goal
+use Rattle.cert_check.proofs.released_row.has_right_row.Goals as goal
 
 pub returns-then-changes_some : goal.returns-then-changes_some
 returns-then-changes_some c =
