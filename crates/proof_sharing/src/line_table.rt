@@ -42,7 +42,7 @@ impl LineTable {
 
     /// Puts the step at the end, unless an equal one is there. The answer is the place of the step in the
     /// table, from 0.
-    pub(crate) fn put(&mut self, step: LineStep) -> Result<u64, OutOfMemory>
+    pub(crate) fn find_or_put(&mut self, step: LineStep) -> Result<u64, OutOfMemory>
         ensures table { OnOk result (self.new ≡ with_step self.old (step_of step)) }
         ensures place { IfOk result (λ place. place ≡ place_in self.old (step_of step)) }
     {

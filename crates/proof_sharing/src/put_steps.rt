@@ -37,6 +37,6 @@ fn put_step(table: &mut LineTable, places: &[u64], step: &Step) -> Result<u64, O
 {
     match as_tabled(places, step) {
         None => Ok(0),
-        Some(line) => table.put(line),
+        Some(line) => table.find_or_put(line),
     }
 }

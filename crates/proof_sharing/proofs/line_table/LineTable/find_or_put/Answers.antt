@@ -6,7 +6,7 @@ use Rattle.proof_sharing.specs.declared.line_step.LineStep.{LineStep}
 use Rattle.proof_sharing.specs.declared.line_step.LineStep.TheVariants as key
 use Rattle.proof_sharing.specs.contracts.line_step.LineStepPartialEq.TheImpl as derived
 use Rattle.proof_sharing.proofs.TableLaws.{place-same, put-same}
-use Rattle.proof_sharing.proofs.line_table.LineTable.put.Goals as goal
+use Rattle.proof_sharing.proofs.line_table.LineTable.find_or_put.Goals as goal
 
 same : (x y : LineStep) → derived.eq-value.it x y ≡ is_same (step_of x) (step_of y)
 same (key.Given i) (key.Given j) = refl
