@@ -23,13 +23,13 @@ const USAGE: &str = "usage: certificate_bench leaves DEPTH | steps COUNT [broken
 // status that says so.
 fn main(rt: HostRuntime) -> ExitCode {
     let alloc = rt.alloc();
-    let told = told(&rt, alloc);
+    let told = run_bench(&rt, alloc);
     leave(alloc, &mut OutPrinter::new(rt), USAGE, told)
 }
 
 // What is printed of the words after the program's name, or why nothing is. The faults are those of
 // `text_of`.
-fn told<R: std::rt::Env + AllocGlobal>(rt: &R, alloc: Global) -> Result<String, Fault> {
+fn run_bench<R: std::rt::Env + AllocGlobal>(rt: &R, alloc: Global) -> Result<String, Fault> {
     let words = words_of(alloc, env::args(rt))?;
     text_of(alloc, &words)
 }

@@ -20,13 +20,13 @@ const USAGE: &str = "usage: proof_bench FILE";
 // that says so.
 fn main(rt: HostRuntime) -> ExitCode {
     let alloc = rt.alloc();
-    let told = told(&rt, alloc);
+    let told = run_bench(&rt, alloc);
     leave(alloc, &mut OutPrinter::new(rt), USAGE, told)
 }
 
 // What is printed of the file that the one word names. `Fault::Usage` where there are more words or
 // none, and `Fault::FileUnread` where the file can't be read.
-fn told(rt: &HostRuntime, alloc: Global) -> Result<String, Fault> {
+fn run_bench(rt: &HostRuntime, alloc: Global) -> Result<String, Fault> {
     let words = words_of(alloc, env::args(rt))?;
     let [name] = words.as_slice() else {
         return Err(Fault::Usage);
@@ -44,15 +44,15 @@ fn text_of(alloc: Global, bytes: &[u8]) -> Result<String, Fault>
     ensures { IfOk result (λ text. IsTold bytes.now (string_bytes text)) }
 {
     match open_proof(alloc, bytes) {
-        Ok(proof) => Ok(counts(alloc, &proof)?),
-        Err(ProofFault::At { line }) => Ok(fault_at(alloc, line)?),
+        Ok(proof) => Ok(counts_line(alloc, &proof)?),
+        Err(ProofFault::At { line }) => Ok(fault_line(alloc, line)?),
         Err(ProofFault::OutOfMemory) => Err(Fault::OutOfMemory),
     }
 }
 
 // How many lines of the rules, steps of the table, records and claims the proof has, as a line of text
 // with its line feed.
-fn counts(alloc: Global, proof: &ProofFile) -> Result<String, Fault>
+fn counts_line(alloc: Global, proof: &ProofFile) -> Result<String, Fault>
     ensures { IfOk result (λ text. string_bytes text ≡ counts_text proof.now) }
 {
     let verdicts = proof.verdicts().len();
@@ -64,7 +64,7 @@ fn counts(alloc: Global, proof: &ProofFile) -> Result<String, Fault>
 
 // A line of text, with its line feed, that names the first line, from 1, at which the bytes can't go on
 // as a proof.
-fn fault_at(alloc: Global, line: u64) -> Result<String, Fault>
+fn fault_line(alloc: Global, line: u64) -> Result<String, Fault>
     ensures { IfOk result (λ text. string_bytes text ≡ fault_text line) }
 {
     Ok(format!(in alloc; "line {line} can't go on\n")?)

@@ -24,12 +24,12 @@ const USAGE: &str = "usage: search_bench RULES RECORDS";
 // the status that says so.
 fn main(rt: HostRuntime) -> ExitCode {
     let alloc = rt.alloc();
-    let told = told(&rt, alloc);
+    let told = run_bench(&rt, alloc);
     leave(alloc, &mut OutPrinter::new(rt), USAGE, told)
 }
 
 // What is printed of the files that the words name; `Fault::Usage` where they are not two.
-fn told(rt: &HostRuntime, alloc: Global) -> Result<String, Fault> {
+fn run_bench(rt: &HostRuntime, alloc: Global) -> Result<String, Fault> {
     let words = words_of(alloc, env::args(rt))?;
     let [rules, records] = words.as_slice() else {
         return Err(Fault::Usage);
