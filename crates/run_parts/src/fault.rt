@@ -146,12 +146,12 @@ impl<'a> Fault<'a> {
         match self {
             Fault::Usage => Ok(USAGE.to_vec(alloc)?),
             Fault::Rules { line, kind } => rules_line(alloc, *line, *kind),
-            Fault::Class { name } => joined(alloc, b"fault: class ", name.as_bytes()),
+            Fault::Class { name } => join_bytes(alloc, b"fault: class ", name.as_bytes()),
             Fault::Records { fault } => fault.line(alloc, b"fault: records "),
             Fault::Last { fault } => fault.line(alloc, b"fault: last "),
-            Fault::Read { name } => joined(alloc, b"fault: read ", name.as_bytes()),
-            Fault::Write { name } => joined(alloc, b"fault: write ", name.as_bytes()),
-            Fault::TooLong { name } => joined(alloc, b"fault: too long ", name.as_bytes()),
+            Fault::Read { name } => join_bytes(alloc, b"fault: read ", name.as_bytes()),
+            Fault::Write { name } => join_bytes(alloc, b"fault: write ", name.as_bytes()),
+            Fault::TooLong { name } => join_bytes(alloc, b"fault: too long ", name.as_bytes()),
             Fault::Rejected { line, why } => rejected_line(alloc, *line, *why),
             Fault::OutOfMemory => Ok(OUT_OF_MEMORY.to_vec(alloc)?),
         }
@@ -215,7 +215,7 @@ impl RecordsFault {
         ensures { IfOk result (λ line. line.items ≡ file.now ++ records_fault_text self.now) }
     {
         let text = self.text(alloc)?;
-        joined(alloc, file, &text)
+        join_bytes(alloc, file, &text)
     }
 
     // What is wrong with the file, as it is printed, such as `kind 14 RowLength row 3`. It is the kind's
@@ -226,10 +226,10 @@ impl RecordsFault {
         match self {
             RecordsFault::NoHeader => Ok(b"kind 11 NoHeader".to_vec(alloc)?),
             RecordsFault::NoColumn { field } => {
-                joined(alloc, b"kind 12 NoColumn field ", field.as_bytes())
+                join_bytes(alloc, b"kind 12 NoColumn field ", field.as_bytes())
             }
             RecordsFault::DoubleColumn { field } => {
-                joined(alloc, b"kind 13 DoubleColumn field ", field.as_bytes())
+                join_bytes(alloc, b"kind 13 DoubleColumn field ", field.as_bytes())
             }
             RecordsFault::RowLength { row_no } => {
                 let number = u64::from(*row_no) + 1;
@@ -272,7 +272,7 @@ fn name_of(fields: &[Field], number: u32) -> Name
 }
 
 // The bytes of both texts, one after the other.
-fn joined(alloc: Global, first: &[u8], second: &[u8]) -> Result<Vec<u8>, OutOfMemory>
+fn join_bytes(alloc: Global, first: &[u8], second: &[u8]) -> Result<Vec<u8>, OutOfMemory>
     ensures { IfOk result (λ all. all.items ≡ first.now ++ second.now) }
 {
     let mut all = first.to_vec(alloc)?;
