@@ -74,7 +74,7 @@ fn change_fault(
     ensures found { IfOk result (FindsSaid (rules_in checking.now) (files_in files.now) (Change path.now weight cert.now) None) }
     ensures within { IfOk result (IsWithin (length (change_lines_in None path.now weight cert.now.leaves))) }
 {
-    match tree_of_change(alloc, checking, files, path, weight, cert)? {
+    match change_path_fault(alloc, checking, files, path, weight, cert)? {
         Some(offset) => Ok(Some(RowFault {
             offset,
             why: Why::Cert,
@@ -120,7 +120,7 @@ fn gift_fault(
 
 // How many lines behind the head the first fault of a change's path, weight or tree is, or None where
 // there is none. A change of weight 0 needs no tree.
-fn tree_of_change(
+fn change_path_fault(
     alloc: Global,
     checking: &Checking,
     files: &RowAt,
