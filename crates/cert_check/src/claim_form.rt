@@ -62,8 +62,8 @@ fn is_claim(said: &ProofFile, clean: &[bool], claim: &Entry) -> bool
             && (are_distinct(ranking) && are_clean(clean, ranking)))
 }
 
-// Whether there is a record of the number `row_no`, and it claims a donor. `saids` has the place of each
-// record in the proof.
+// Whether there is a record of the number `row_no`, from 0, and it claims a donor. `saids` has, for each
+// record, the place where the proof speaks of it.
 fn row_claims(saids: &[RowPlace], row_no: u32) -> bool
     ensures { Decides result (IsSomeAnd (slice_get saids.now row_no) (λ said. claims_donor said.outcome ≡ true)) }
 {
@@ -92,7 +92,7 @@ fn are_clean(clean: &[bool], ranking: &[u32]) -> bool
     ranking.iter().all(|donor| is_donor(clean, *donor))
 }
 
-// Whether `donor` is the number of a record that is there, and is clean.
+// Whether there is a record of the number `donor`, from 0, and it is clean: then it may be a donor.
 fn is_donor(clean: &[bool], donor: u32) -> bool
     ensures { result ≡ slice_index_or clean.now donor false }
 {

@@ -35,8 +35,8 @@ fn claimed_rows(alloc: Global, said: &ProofFile) -> Result<Vec<bool>, OutOfMemor
     Ok(marks)
 }
 
-// Whether each record that claims a donor is marked as one that has a claim. `saids` has the place of each
-// record in the proof, and `marks` its mark.
+// Whether each record that claims a donor is marked as one that has a claim. `saids` has, for each record,
+// the place where the proof speaks of it, and `marks` whether the proof has a claim of it.
 fn are_marked(saids: &[RowPlace], marks: &[bool]) -> bool
     requires { length marks.now ≡ length saids.now }
     ensures { Decides result (AllMarked saids.now marks.now) }

@@ -25,7 +25,8 @@ use foundation::{OutOfMemory, Sequence};
 use proof_text::ProofFile;
 use std::alloc::Global;
 
-/// The first line of the proof at which what it says of the lines of the rules is not right, or None.
+/// The number, from 1, of the first line of the proof at which what it says of the lines of the rules is
+/// not right, or None. The first verdict stands on line 4, behind the version, the limits and the count.
 /// `lines` are lent for writing, so that none is copied for each line that is dropped.
 pub(crate) fn drop_fault(
     alloc: Global,
@@ -78,7 +79,7 @@ fn verdicts_fault(
     Ok(None)
 }
 
-/// For each line of the rules whether the proof keeps it.
+/// For each line of the rules whether the proof keeps it, which a verdict without steps says.
 pub(crate) fn kept_flags(
     alloc: Global,
     verdicts: &[Option<Sequence<Step>>],

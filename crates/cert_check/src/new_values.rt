@@ -72,7 +72,8 @@ fn value_at(
     }
 }
 
-// The value of `text`, or None where it gives none, or the one that was read (`read`).
+// The value of the released `text`, for a changed field. None where it gives no value, or the one that was
+// read (`read`), since a changed field has to have another one.
 fn other_value(kind: &Kind, text: &[u8], read: &Value) -> Option<Value>
     requires { IsKind kind.now }
     ensures value { IfSome result (λ v. IsGivenText kind.now text.now v × (is_same v read.now ≡ false)) }
@@ -109,7 +110,7 @@ fn given_value(kind: &Kind, text: &[u8]) -> Option<Value>
     }
 }
 
-// The place of the code that has these bytes, or None where none has.
+// The place, from 0, of the code of a field that has these bytes, or None where none has.
 fn code_place(codes: &[Name], text: &[u8]) -> Option<usize>
     ensures place { result ≡ code_number codes.now text.now }
     ensures within { IfSome result (λ place. place < length codes.now) }

@@ -13,8 +13,9 @@ use foundation::OutOfMemory;
 use record_text::{Sheet, SheetFault, Texts, read_records};
 use std::alloc::Global;
 
-/// The rows of the released bytes, if these are, as a record file, `header` and `count` rows as long as
-/// it. None where they are not. The file is read as one of no fields: its texts stand for no values yet.
+/// The rows of the released bytes, where these are a record file with this `header` and `count` rows, each
+/// of as many texts as the header. None where they are not. The file is read as one of no fields, so that
+/// its texts stand for no values yet.
 pub(crate) fn released_rows(
     alloc: Global,
     header: &Texts,
@@ -39,7 +40,7 @@ fn no_fields(alloc: Global) -> Result<Survey, OutOfMemory>
     Survey::of(alloc, Vec::new(alloc), Vec::new(alloc))
 }
 
-// The sheet, if it has this header and `count` rows, and else None.
+// The sheet of the released file, if it has this header and `count` rows, and else None.
 fn if_fits(header: &Texts, sheet: Sheet, count: u32) -> Option<Sheet>
     ensures some { IfSome result (λ kept. (kept ≡ sheet) × (sheet.header ≡ header.now) × (length sheet.rows ≡ count)) }
     ensures none { IfNone result ((sheet.header ≡ header.now) → ¬ (length sheet.rows ≡ count)) }

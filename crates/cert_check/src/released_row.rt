@@ -19,9 +19,9 @@ use foundation::OutOfMemory;
 use record_text::Texts;
 use std::alloc::Global;
 
-/// Whether the right texts are released for the record, of which `path` changes some fields or none. These
-/// are the texts that were read, but at changed fields others, with which the record is clean. They aren't
-/// right where the released file has no row for the record.
+/// Whether the released file has the right row for the record, of which `path` changes some fields or
+/// none. It is right where it has the texts that were read, but for other values at the changed fields,
+/// and the record is clean with these. False where the released file has no row for the record.
 pub(crate) fn has_right_row(
     alloc: Global,
     checking: &Checking,
@@ -45,8 +45,8 @@ pub(crate) fn has_right_row(
     }
 }
 
-// Whether the texts give each changed field a value other than the one that was read, and the record is
-// clean with all values.
+// Whether the released `texts` give each changed field a value other than the one that was read, and the
+// record is clean with them. False where some changed field has no such value.
 fn gives_clean(
     alloc: Global,
     checking: &Checking,

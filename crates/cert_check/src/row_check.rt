@@ -118,8 +118,8 @@ fn gift_fault(
     }
 }
 
-// How many lines behind the head the first fault of a change's path, weight or tree is, or None where
-// there is none. A change of weight 0 needs no tree.
+// How many lines behind the head the first fault of the path, the weight or the tree is, of a change that
+// was given values. None where there is none. A change of weight 0 is a clean record, which needs no tree.
 fn change_path_fault(
     alloc: Global,
     checking: &Checking,
@@ -141,8 +141,8 @@ fn change_path_fault(
     }
 }
 
-// How many lines behind the head the first fault of the path, the weight or the tree is, or None where
-// there is none. One of the path or of the weight is at the head itself.
+// How many lines behind the head the first fault of the path, the weight or the tree is, of any change.
+// None where there is none. It is 0, the head itself, for a fault of the path or of the weight.
 fn path_fault(
     alloc: Global,
     checking: &Checking,
@@ -164,7 +164,7 @@ fn path_fault(
     }
 }
 
-// None where what the head of a record says is `right`, and else the fault `Cert` at the head.
+// The fault `Cert` at the head of a record, or None where what the head says is `right`.
 fn head_fault(right: bool) -> Option<RowFault>
     ensures { result ≡ (if right then None else Some (record { offset = 0; why = Why.Cert })) }
 {
@@ -178,7 +178,8 @@ fn head_fault(right: bool) -> Option<RowFault>
     }
 }
 
-// The fault `Cert` that stands `offset` lines behind the head of a record, if there is one.
+// The fault `Cert` that stands `offset` lines behind the head of a record. None where the check of the
+// tree found no fault, and so gave no `offset`.
 fn cert_fault(offset: Option<u64>) -> Option<RowFault>
     ensures { result ≡ option_map (λ offset. record { offset = offset; why = Why.Cert }) offset }
 {

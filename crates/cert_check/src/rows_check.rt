@@ -20,9 +20,9 @@ use proof_text::RowPlace;
 use record_text::{Sheet, Texts};
 use std::alloc::Global;
 
-/// The first fault of what is said of the records, or None; its offset is behind the head of the first
-/// record. `saids` are the places of the rows of the proof, each of which is read and dropped again.
-/// `released` has a row for each record that is released, in order.
+/// The first fault of what the proof says of the records, or None. Its offset counts lines from the head
+/// of the first record, which is 0. `saids` has, for each record, the place where the proof speaks of it.
+/// Each is read there and dropped again. `released` has the rows of the released records, in order.
 pub(crate) fn rows_fault(
     alloc: Global,
     checking: &Checking,
@@ -58,8 +58,8 @@ pub(crate) fn rows_fault(
     Ok(None)
 }
 
-// The record of the number `row_no`, with the released row at place `next` if it is released. `place` is
-// that of its row in the proof.
+// The record of the number `row_no`, from 0: what was read of it, and the released row at place `next`, if
+// the proof says that it is released. `place` is where the proof speaks of it.
 fn files_at<'a>(
     place: &RowPlace,
     records: &'a Sheet,
@@ -78,7 +78,8 @@ fn files_at<'a>(
     }
 }
 
-// The released texts at place `next`, if the record is released and the file has that row; else None.
+// The texts of the released row at place `next`. None where the proof releases nothing of the record, or
+// the released file has no further row, which the check of the record then refuses.
 fn texts_at<'a>(place: &RowPlace, released: &'a Sheet, next: u32) -> Option<&'a Texts>
     ensures { option_map (λ t. t.now) result ≡ next_texts place.now (drop next released.now.row_texts) }
 {
@@ -89,8 +90,8 @@ fn texts_at<'a>(place: &RowPlace, released: &'a Sheet, next: u32) -> Option<&'a 
     }
 }
 
-// The place of the next released row once this record is checked: one further where the record took the row
-// at `next`.
+// The place, from 0, of the first released row that is left for later records, once this one is checked.
+// It is one further than `next` where this record took the row at `next`, and else `next` itself.
 fn next_released_row(place: &RowPlace, released: &Sheet, next: u32) -> u32
     ensures { drop result released.now.row_texts ≡ behind place.now (drop next released.now.row_texts) }
 {

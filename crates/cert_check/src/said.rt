@@ -8,8 +8,8 @@ use bound_cert::{Event, GiftFault, Path};
 use edit_line::Place;
 use edit_model::{Row, Survey};
 
-/// Whether the path is one of a change. It says something of each field, keeps none at which the record
-/// has no value, and has this `weight`. No memory.
+/// Whether the path is one of a change of the record. Such a path has a letter for each field, keeps no
+/// field at which the record has no value, and has this `weight`. No memory.
 pub(crate) fn is_change(survey: &Survey, row: &Row, path: &Path, weight: u64) -> bool
     requires { IsRow survey.now.fields row.now }
     ensures { result ≡ fits_change survey.now.fields row.now path.now weight }
@@ -18,8 +18,8 @@ pub(crate) fn is_change(survey: &Survey, row: &Row, path: &Path, weight: u64) ->
         && (!path.keeps_bad(survey, row) && path.weight(survey) == weight)
 }
 
-/// Whether the field, or the rule, is there at which a number left the range while values were given. No
-/// memory.
+/// Whether the survey has the field, or the rule, at which a number left the range while values were given,
+/// as the proof says. No more is checked of such a `fault`. No memory.
 pub(crate) fn gift_exists(survey: &Survey, fault: GiftFault) -> bool
     ensures { result ≡ gift_exists survey.now fault }
 {
@@ -29,8 +29,9 @@ pub(crate) fn gift_exists(survey: &Survey, fault: GiftFault) -> bool
     }
 }
 
-/// Whether the path is no longer than the fields, and the field is there at which a number left the range.
-/// Which number it was, is taken on trust. No memory.
+/// Whether the path has at most as many letters as there are fields, and the survey has the field at which
+/// a number left the range in the search, as the proof says. Which number it was, is taken on trust. No
+/// memory.
 pub(crate) fn event_exists(survey: &Survey, path: &Path, event: Event) -> bool
     ensures { result ≡ event_exists survey.now.fields path.now event }
 {
@@ -41,8 +42,8 @@ pub(crate) fn event_exists(survey: &Survey, path: &Path, event: Event) -> bool
     }
 }
 
-// Whether `place`, at which a number of a line left the range, is that of one of the fields, or of the
-// constant.
+// Whether `place`, at which a number of a line left the range, is that of a field of the survey, or that
+// of the constant.
 fn place_exists(survey: &Survey, place: Place) -> bool
     ensures { result ≡ place_exists survey.now.fields place }
 {

@@ -112,15 +112,16 @@ fn check_records(
     Ok(count)
 }
 
-/// The refusal of the files for the condition `why`, which fails at this line of the proof.
+/// The refusal of the files since the condition `why` fails at this line of the proof, from 1. Line 0
+/// stands for the released file as a whole.
 pub(crate) fn rejection(line: u64, why: Why) -> CheckFault
     ensures { result ≡ faults.Rejected line why }
 {
     CheckFault::Rejected { line, why }
 }
 
-// How many records are released, by what the proof says of them. `saids` has the place of each record in
-// the proof.
+// How many records are released, by what the proof says of them: so many rows the released file has to
+// have. `saids` has, for each record, the place where the proof speaks of it.
 fn released_count(saids: &[RowPlace]) -> u32
     requires { length saids.now ≤ 200000 }
     ensures { result ≡ length (filter is_released saids.now) }

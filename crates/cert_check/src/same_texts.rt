@@ -21,8 +21,8 @@ pub(crate) fn are_same(checking: &Checking, path: &[bool], reads: &Texts, texts:
     true
 }
 
-// Whether `text` may stand where `read` was read: it is the same, or a field that `path` changes stands in
-// this column.
+// Whether `text` may be released in this column, from 0, where `read` was read. It may where it is the
+// same, or where a field that `path` changes stands in this column.
 fn may_be_released(
     checking: &Checking,
     path: &[bool],
@@ -35,7 +35,7 @@ fn may_be_released(
     text == read || stands_changed(checking, path, column)
 }
 
-// Whether a field that the path changes stands in this column.
+// Whether a field that the path changes stands in this column, from 0. A further column has no field.
 fn stands_changed(checking: &Checking, path: &[bool], column: usize) -> bool
     ensures { result ≡ stands_changed (changes checking.now.survey.now.fields path.now) 0 checking.now.columns.now column }
 {

@@ -17,8 +17,9 @@ use bound_cert::{Cert, CertFault, Leaf, check_cert};
 use foundation::OutOfMemory;
 use std::alloc::Global;
 
-/// How many lines behind the head of the record the first fault of its tree is, or None. The tree has to
-/// show that no correction weighs less than `weight`, or, without one, that there is no correction.
+/// How many lines behind the head of the record the first fault of its tree is, or None where the tree is
+/// valid. It has to show that no correction weighs less than `weight`, or, where `weight` is None, that
+/// there is no correction.
 pub(crate) fn tree_fault(
     alloc: Global,
     checking: &Checking,
@@ -49,8 +50,8 @@ pub(crate) fn tree_fault(
     }
 }
 
-// How many lines behind the head of the record the leaf of number `leaf` is, or its `step`. It is 0, for
-// the head itself, where there are no leaves.
+// How many lines behind the head of the record the leaf of the number `leaf` stands, or its `step`; both
+// numbers are from 0. It is 0, for the head itself, where there are no leaves.
 fn tree_offset(leaves: &[Leaf], leaf: u64, step: Option<u64>) -> u64
     requires few { 1 + length (flat_map leaf_lines leaves.now) < 2 ^ 64 }
     requires named { ((leaves.now ≡ []) × (leaf ≡ 0) × (step ≡ None)) ⊎ IsNamedIn leaves.now leaf step }
