@@ -95,8 +95,8 @@ impl<'a> Lines<'a> {
     }
 }
 
-/// The answer `read` of a call that read the line that was taken last; a `Form` becomes the fault `At`
-/// that line.
+/// What a call made of the line that was taken last (`read`), as the answer of a call that reads lines. Ok
+/// stays as it is. `Form` becomes the fault `At` the number of that line, and want of memory stays so.
 pub fn settle<T>(lines: &Lines, read: Result<T, Stop>) -> Result<T, ProofFault>
     ensures { Settles read lines.now result }
 {

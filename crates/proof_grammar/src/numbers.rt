@@ -76,8 +76,8 @@ pub fn read_named_u32(word: &[u8]) -> Option<u32>
     }
 }
 
-/// One less than the number from 1 to 2^64 - 1 that the word spells. None for the word 0, so that a weight
-/// of at least 1 is read.
+/// One less than the number from 1 to 2^64 - 1 that the word spells, for the weight of a change. None for
+/// the word 0, since a change of weight 0 is spelled `clean`, and for any other word.
 pub fn read_one_less(word: &[u8]) -> Option<u64>
     ensures read { result ≡ positive_said word.now }
     ensures fits { IfSome result (λ less. suc less < 2 ^ 64) }
@@ -137,8 +137,8 @@ pub fn read_whole(word: &[u8]) -> Option<i128>
     }
 }
 
-/// The whole number in range that the word spells, or None where it is negative or the word spells none.
-/// That 0 is no divisor is a condition on a proof, and not on its text.
+/// The whole number from 0 to 2^127 - 1 that the word spells, for the divisor of a combination. None for
+/// any other word. That 0 divides nothing is a condition on a proof, and not on its text.
 pub fn read_divisor(word: &[u8]) -> Option<i128>
     ensures { result ≡ divisor_said word.now }
 {

@@ -32,7 +32,7 @@ fn are_letters(word: &[u8]) -> bool
 }
 
 // The path of these letters: C is a changed field, and any other byte a kept one. The caller has seen that
-// each is K or C.
+// each is K or C, so `Form` is never answered here.
 fn read_letters(alloc: Global, word: &[u8]) -> Result<Path, Stop>
     ensures { ReadsAs result (Some (map is_changed word.now)) }
 {

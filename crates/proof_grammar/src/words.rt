@@ -1,4 +1,6 @@
-//! The words of a line, read one after another, each as what the grammar has in its place.
+//! The words of a line, read one after another, each as what the grammar has in its place. Each `take_..`
+//! call reads the first word that is left. Where that is what was asked for, it is taken, and else `Form`
+//! is answered and the word stays. What is named from 1 on in the text is numbered from 0 in memory.
 //!
 //! In contracts, `Takes` says that the call answers what the grammar reads off the first word, and leaves
 //! the words behind it. Where the grammar reads nothing there, the answer is `Form`. `word_in` is that
@@ -85,7 +87,7 @@ impl<'a> Words<'a> {
         }
     }
 
-    /// Takes a number below 2^64.
+    /// Takes a number below 2^64, such as a count or an amount of work. `Form` for any other word.
     pub fn take_u64(&mut self) -> Result<u64, Stop>
         ensures taken { Takes result self.new (word_in long_said self.old) }
         ensures refused { OnErr result (self.new ≡ self.old) }
@@ -96,7 +98,7 @@ impl<'a> Words<'a> {
         Ok(read)
     }
 
-    /// Takes a number below 2^32.
+    /// Takes a number below 2^32, such as a limit of the run. `Form` for any other word.
     pub fn take_u32(&mut self) -> Result<u32, Stop>
         ensures taken { Takes result self.new (word_in short_said self.old) }
         ensures refused { OnErr result (self.new ≡ self.old) }
@@ -107,7 +109,7 @@ impl<'a> Words<'a> {
         Ok(read)
     }
 
-    /// Takes the name, from 1 to 2^64, of a line or a step, and answers its number, from 0.
+    /// Takes the name, from 1 to 2^64, of a line or a step, and answers its number: one less, from 0.
     pub fn take_named_u64(&mut self) -> Result<u64, Stop>
         ensures taken { Takes result self.new (word_in named_long self.old) }
         ensures refused { OnErr result (self.new ≡ self.old) }
@@ -118,8 +120,8 @@ impl<'a> Words<'a> {
         Ok(read)
     }
 
-    /// Takes the name, from 1 to 2^32, of a field, a rule, a row or a donor, and answers its number, from
-    /// 0.
+    /// Takes the name, from 1 to 2^32, of a field, a rule, a row or a donor, and answers its number: one
+    /// less, from 0.
     pub fn take_named_u32(&mut self) -> Result<u32, Stop>
         ensures taken { Takes result self.new (word_in named_short self.old) }
         ensures refused { OnErr result (self.new ≡ self.old) }
@@ -142,7 +144,7 @@ impl<'a> Words<'a> {
         Ok(read)
     }
 
-    /// Takes a whole number in range, of absolute value at most 2^127 - 1.
+    /// Takes a whole number of absolute value at most 2^127 - 1, the multiplier of a combined line.
     pub fn take_whole(&mut self) -> Result<i128, Stop>
         ensures taken { Takes result self.new (word_in whole_said self.old) }
         ensures refused { OnErr result (self.new ≡ self.old) }
@@ -153,7 +155,8 @@ impl<'a> Words<'a> {
         Ok(read)
     }
 
-    /// Takes a whole number in range that is not negative.
+    /// Takes a whole number from 0 to 2^127 - 1, the divisor of a combination. That 0 divides nothing is
+    /// looked at later.
     pub fn take_divisor(&mut self) -> Result<i128, Stop>
         ensures taken { Takes result self.new (word_in divisor_said self.old) }
         ensures refused { OnErr result (self.new ≡ self.old) }
@@ -164,7 +167,8 @@ impl<'a> Words<'a> {
         Ok(read)
     }
 
-    /// Takes a number from 1 to 2^64 - 1, and answers one less than it.
+    /// Takes a number from 1 to 2^64 - 1, the weight of a change, and answers one less than it. So the
+    /// answer can't stand for the weight 0, and `Form` is answered for the word 0.
     pub fn take_one_less(&mut self) -> Result<u64, Stop>
         ensures read { Takes result self.new (word_in positive_said self.old) }
         ensures fits { IfOk result (λ less. suc less < 2 ^ 64) }
@@ -188,7 +192,7 @@ impl<'a> Words<'a> {
         Ok(read)
     }
 
-    /// Takes the word that is just `word`. Any other is `Form`, and is not taken.
+    /// Takes the next word where it is just `word`, such as `near` before its number. `Form` for any other.
     pub fn take_word(&mut self, word: &[u8]) -> Result<(), Stop>
         ensures taken { Takes result self.new (word_in (fixed_said word.now) self.old) }
         ensures refused { OnErr result (self.new ≡ self.old) }
@@ -201,7 +205,7 @@ impl<'a> Words<'a> {
         Ok(())
     }
 
-    /// Takes the letters of a path. This call alone takes memory.
+    /// Takes the letters of a path, or `-` for the path of no fields. This call alone takes memory.
     pub fn take_path(&mut self, alloc: Global) -> Result<Path, Stop>
         ensures taken { Takes result self.new (word_in path_said self.old) }
         ensures refused { OnErr result (self.new ≡ self.old) }
@@ -212,7 +216,7 @@ impl<'a> Words<'a> {
         Ok(path)
     }
 
-    /// Ok where no word is left, and else `Form`.
+    /// Ok where no word is left, and else `Form`: what stands behind the last word of a form is refused.
     pub fn end(&self) -> Result<(), Stop>
         ensures { ReadsAs result (ended tt self.now) }
     {
