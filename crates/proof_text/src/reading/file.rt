@@ -1,5 +1,7 @@
 //! The lines of a whole proof file, read from the first to the last: version, limits, verdicts, table,
-//! records, claims and end. Each `behind_..` call has the parts before and reads what follows them.
+//! records, claims and end. Each `next_..` call reads a part at the front of the lines that are left, and
+//! takes its lines. Each `read_behind_..` call has the parts before and reads all that follows them. The
+//! other `read_..` calls read the words of one line, and each `take_..` call some first words.
 //! `shared` is the number of the lines of the rules, behind which those of a table are numbered, or None
 //! without a table.
 //!
@@ -27,7 +29,8 @@ use foundation::Sequence;
 use proof_grammar::{Lines, ProofFault, RunLimits, Stop, Words, settle};
 use std::alloc::Global;
 
-/// The proof that all lines spell, but for what stands behind the line `end`.
+/// The proof that the lines spell up to the line `end`. The caller looks whether something stands behind
+/// that. The trees of the rows are not held.
 pub(super) fn read_file<'a>(
     alloc: Global,
     lines: &mut Lines<'a>,
@@ -124,7 +127,7 @@ fn read_behind_rows<'a>(
     })
 }
 
-// The steps of the table, where one is `there`. Else there are none, and no line is taken.
+// The steps of the table, where the file has one (`there`). Else there are none, and no line is taken.
 fn next_table(alloc: Global, lines: &mut Lines, there: bool) -> Result<Sequence<Step>, ProofFault>
     ensures { Reads result lines.old lines.new (table_reading there lines.old.left) }
 {
@@ -135,8 +138,8 @@ fn next_table(alloc: Global, lines: &mut Lines, there: bool) -> Result<Sequence<
     next_table_steps(alloc, lines, count)
 }
 
-// The line that counts the records, and the places of that many rows. Behind `shared` given lines those of
-// a table are numbered.
+// The places of the rows, behind the line that counts the records: as many as it says. That line and those
+// of the rows are taken.
 fn next_counted_rows<'a>(
     alloc: Global,
     lines: &mut Lines<'a>,
@@ -148,7 +151,8 @@ fn next_counted_rows<'a>(
     next_places(alloc, lines, shared, count)
 }
 
-// The count behind this `word`, and as many parts.
+// The parts behind the line that is this `word` and their count: as many as it says. That line and those of
+// the parts are taken.
 fn next_counted_parts<P: Part>(
     alloc: Global,
     lines: &mut Lines,
@@ -161,7 +165,7 @@ fn next_counted_parts<P: Part>(
     next_parts(alloc, lines, shared, count)
 }
 
-// The version that the first line tells.
+// The version that the next line tells, which is the first of the file.
 fn next_version(lines: &mut Lines) -> Result<u32, ProofFault>
     ensures { Reads result lines.old lines.new (read_line version_in lines.old.left) }
 {
@@ -180,7 +184,7 @@ fn read_version(line: &[u8]) -> Result<u32, Stop>
     Ok(version)
 }
 
-// The number of a version, 1 or 2; `Form` for any other word.
+// The version that the next word spells, 1 or 2. `Form` for any other word, or where none is left.
 fn take_version(words: &mut Words) -> Result<u32, Stop>
     ensures { Takes result words.new (word_in version_said words.old) }
 {
@@ -196,7 +200,7 @@ fn take_version(words: &mut Words) -> Result<u32, Stop>
     }
 }
 
-// The limits that the second line tells.
+// The limits that the next line tells, which is the second of the file.
 fn next_limits(lines: &mut Lines) -> Result<RunLimits, ProofFault>
     ensures { Reads result lines.old lines.new (read_line limits_in lines.old.left) }
 {
@@ -214,8 +218,8 @@ fn read_limits(line: &[u8]) -> Result<RunLimits, Stop>
     read_behind_limit(&mut words, limit)
 }
 
-// The limits of a line of which `limit` is read: how many donors a row ranks comes next, and then what
-// `read_behind_near` reads.
+// The limits of a line of which `limit` is read. The word `near` and how many donors a row ranks at most
+// come next, and then what `read_behind_near` reads. `Form` for any other words.
 fn read_behind_limit(words: &mut Words, limit: u32) -> Result<RunLimits, Stop>
     ensures { ReadsAs result (near_behind limit words.old) }
 {
@@ -224,7 +228,8 @@ fn read_behind_limit(words: &mut Words, limit: u32) -> Result<RunLimits, Stop>
     read_behind_near(words, limit, near)
 }
 
-// The limits of a line of which `limit` and `near` are read: how much work a search may take comes last.
+// The limits of a line of which `limit` and `near` are read. The word `budget` and how much work a search
+// may take come last. `Form` for any other words.
 fn read_behind_near(words: &mut Words, limit: u32, near: u32) -> Result<RunLimits, Stop>
     ensures { ReadsAs result (budget_behind limit near words.old) }
 {
@@ -257,7 +262,7 @@ fn read_count(line: &[u8], word: &[u8]) -> Result<u64, Stop>
     Ok(count)
 }
 
-// Reads the last line, which is `end`.
+// Takes the next line, which has to be the last one, `end`.
 fn next_end(lines: &mut Lines) -> Result<(), ProofFault>
     ensures { Reads result lines.old lines.new (read_line end_in lines.old.left) }
 {

@@ -3,7 +3,7 @@ ghost use Rattle.std.specs.Prelude.{◌≡◌};
 
 use foundation::Sequence;
 
-/// The list of the elements, in no more memory than they take.
+/// The list of these elements, in no more memory than they take. It can't be refused.
 pub(super) fn fit_list<T: Drop>(mut items: Vec<T>) -> Sequence<T>
     ensures { result ≡ items.items }
 {

@@ -25,7 +25,8 @@ impl Part for Leaf {
     }
 }
 
-// The leaf whose `head` was read. As many steps as the head says are at the front, and are read here.
+// The leaf whose `head` was read. As many steps as the head says are at the front; they are read here, and
+// their lines are taken. A head without a count has none.
 fn read_behind_head(
     alloc: Global,
     lines: &mut Lines,
@@ -60,7 +61,7 @@ fn read_behind_head(
     }
 }
 
-// The head of the leaf that the next line is.
+// The head of a leaf, which the next line is; the line is taken.
 fn next_head(alloc: Global, lines: &mut Lines) -> Result<LeafHead, ProofFault>
     ensures { Reads result lines.old lines.new (read_line leaf_in lines.old.left) }
 {

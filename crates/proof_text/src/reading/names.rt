@@ -26,7 +26,7 @@ pub(super) trait Named: Sized + Drop {
 impl Named for u64 {
     ghost named = { named_long };
 
-    // The number of a step, which is named from 1 to 2^64.
+    // The number, from 0, of a step, which is named from 1 to 2^64. None for any other word.
     fn number(word: &[u8]) -> Option<u64> {
         read_named_u64(word)
     }
@@ -35,14 +35,14 @@ impl Named for u64 {
 impl Named for u32 {
     ghost named = { named_short };
 
-    // The number of a row, which is named from 1 to 2^32.
+    // The number, from 0, of a row, which is named from 1 to 2^32. None for any other word.
     fn number(word: &[u8]) -> Option<u32> {
         read_named_u32(word)
     }
 }
 
-/// The numbers that all words behind name, to the end of the line. `Form` where a word names none; no words
-/// give no numbers.
+/// The numbers, from 0, of what the words that are left name, to the end of the line. `Form` where a word
+/// names none. Where no words are left, there are no numbers.
 pub(super) fn read_names<N: Named>(alloc: Global, words: &mut Words) -> Result<Sequence<N>, Stop>
     ensures { ReadsAs result (all_in N.named words.old) }
 {

@@ -27,8 +27,8 @@ pub(super) trait Part: Sized + Drop {
         ensures { Reads result lines.old lines.new (reading shared lines.old.left) };
 }
 
-/// `count` parts, one after another. The first fault of a part ends the call. Memory is taken for each
-/// part when its lines were read, whatever the count says.
+/// The next `count` parts, one after another, whose lines are taken. The first fault of a part ends the
+/// call. Memory is taken for each part when its lines were read, whatever the count says.
 pub(super) fn next_parts<P: Part>(
     alloc: Global,
     lines: &mut Lines,

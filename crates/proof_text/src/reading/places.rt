@@ -1,5 +1,6 @@
 //! Where the rows of a proof file stand. A row is read once, to see that it is one, dropped, and read
-//! again when it is asked for.
+//! again when it is asked for. `shared` is the number of the lines of the rules, behind which those of a
+//! table are numbered. It is None where the file has no table.
 //!
 //! In contracts, `row_reading` is what the grammar reads off lines as a row. `Reads` says that the call
 //! answers just that, and which lines are left behind it. Where the grammar reads nothing, the fault is at
@@ -23,7 +24,7 @@ use std::marker::Model;
 pub struct RowPlace<'a> {
     // The lines from its first on.
     lines: Lines<'a>,
-    // Behind how many given lines those of a table stand, if there is a table.
+    // The number of the lines of the rules, behind which those of a table are numbered, if there is one.
     shared: Option<u64>,
     weight: Option<u64>,
     gift: Option<GiftFault>,
@@ -68,9 +69,8 @@ impl<'a> RowPlace<'a> {
     }
 }
 
-/// The places of `count` rows, one after another. Each row is read and dropped. Behind `shared` given
-/// lines those of a table are numbered. Memory is taken for a place when its row was read, whatever the
-/// count says.
+/// The places of `count` rows, one after another, whose lines are taken. Each row is read and dropped.
+/// Memory is taken for a place when its row was read, whatever the count says.
 pub(super) fn next_places<'a>(
     alloc: Global,
     lines: &mut Lines<'a>,

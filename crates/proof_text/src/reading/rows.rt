@@ -19,7 +19,7 @@ use foundation::Sequence;
 use proof_grammar::{Lines, ProofFault, RowHead, Stop, Words, settle};
 use std::alloc::Global;
 
-/// The row whose lines are at the front: what was found of a record, with its tree.
+/// The row whose lines are at the front: what was found of a record, with its tree. Its lines are taken.
 pub(super) fn next_row(
     alloc: Global,
     lines: &mut Lines,
@@ -88,7 +88,7 @@ fn read_behind_head(
     }
 }
 
-// The head of the row that the next line is.
+// The head of a row, which the next line is; the line is taken.
 fn next_head(alloc: Global, lines: &mut Lines) -> Result<RowHead, ProofFault>
     ensures read { Reads result lines.old lines.new (read_line row_in lines.old.left) }
     ensures fits { IfOk result WeighsLong }
@@ -154,8 +154,8 @@ fn read_gift_head(alloc: Global, words: &mut Words) -> Result<RowHead, Stop>
     Ok(RowHead::GiftAt(weight, path, fault, count))
 }
 
-// Which number left the range while values were given. Words of a field and a line: that of a bound of the
-// field by the line. Words of 0 and a rule: that of the rule's test.
+// Which number left the range while values were given. Where the words name a field and a line, it is one
+// of the bound of the field by the line. Where they are 0 and a rule's name, it is one of the rule's test.
 fn take_gift_fault(words: &mut Words) -> Result<GiftFault, Stop>
     ensures { Takes result words.new (gift_fault_in words.old) }
 {

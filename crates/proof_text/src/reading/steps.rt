@@ -51,7 +51,7 @@ pub(super) fn next_table_steps(
     Ok(fit_list(steps))
 }
 
-// The step of the next line of a table.
+// The step of the next line, which is one of a table; the line is taken.
 fn next_table_step(lines: &mut Lines) -> Result<Step, ProofFault>
     ensures { Reads result lines.old lines.new (read_line table_step_in lines.old.left) }
 {
@@ -113,8 +113,8 @@ fn read_step_with_table(alloc: Global, line: &[u8], count: u64) -> Result<Step, 
     }
 }
 
-// A given line of the rules. `Form` where it is past their `count`, since a line of the table is named by
-// `shared`.
+// The step behind the word `given`, in a file with a table: the name of one of the `count` lines of the
+// rules. `Form` where it is past these, since a line of the table is named by `shared`.
 fn read_given_of_rules(words: &mut Words, count: u64) -> Result<Step, Stop>
     ensures { ReadsAs result (few_given_in count words.old) }
 {

@@ -30,8 +30,8 @@ impl Part for Option<Sequence<Step>> {
     }
 }
 
-// The verdict whose `head` was read. It says how many steps are at the front, which are read here, or is
-// None for a line that is kept. The steps of verdicts name no line of a table.
+// The verdict whose `head` was read: None for a line that is kept, which has no steps, or how many steps
+// are at the front. They are read here, and their lines are taken. They name no line of a table.
 fn read_behind_head(
     alloc: Global,
     lines: &mut Lines,
