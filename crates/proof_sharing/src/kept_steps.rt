@@ -1,7 +1,7 @@
 //! What a leaf keeps of its steps once the lines that they derive stand in the table.
 //!
-//! `places` has the place in the table of each step of the leaf. `given` is the number of the lines of the
-//! rules, before those of the table.
+//! `places` has the place in the table, from 0, of each step of the leaf, and 0 for one that makes a box.
+//! `given` is the number of the lines of the rules, before those of the table.
 ghost use Rattle.std.specs.Prelude.{◌≡◌, ◌<◌, ◌||◌, ℕ, IfOk, OnOk, Some, None, false, if◌then◌else◌, length, map, slice_index_or};
 ghost use Rattle.derivation.specs.SharedLines.{and_kept, fails_at, is_failed, kept_step, last_of, shared_box, shared_line, shared_step};
 ghost use Rattle.derivation.specs.declared.step.Step.{Step};
@@ -11,8 +11,8 @@ use derivation::Step;
 use foundation::{OutOfMemory, Sequence};
 use std::alloc::Global;
 
-/// The steps of a leaf that a line refutes: one step alone, which names the last of the leaf's lines in
-/// the table.
+/// The steps that are left to a leaf that a line refutes: one step alone, which names in the table the last
+/// of the leaf's lines. That line is the one that refutes.
 pub(crate) fn shared_line(
     alloc: Global,
     given: u64,
@@ -49,7 +49,7 @@ pub(crate) fn shared_box(
     Ok(Sequence::from_vec(kept))
 }
 
-// The flag at `place`, false where there is none.
+// The flag at `place`, from 0, or false where there is none.
 fn flag_at(flags: &[bool], place: usize) -> bool
     ensures { result ≡ slice_index_or flags.now place false }
 {
@@ -141,7 +141,8 @@ fn last_of(numbers: &[u64]) -> u64
     }
 }
 
-// For each step whether a `fail` step makes a box of its line. `is_failed` says so in the contract.
+// For each step whether a `fail` step of the leaf makes a box of its line, so that the line is kept. In the
+// contract, `is_failed` says so of the step `i`.
 fn failed_flags(alloc: Global, steps: &[Step]) -> Result<Vec<bool>, OutOfMemory>
     ensures long { IfOk result (λ flags. length flags.items ≡ length steps.now) }
     ensures each { IfOk result (λ flags. (i : ℕ) → i < length steps.now → slice_index_or flags.items i false ≡ is_failed steps.now i) }

@@ -44,8 +44,9 @@ pub(crate) fn steps_of(alloc: Global, keys: &[LineStep]) -> Result<Sequence<Step
     Ok(Sequence::from_vec(steps))
 }
 
-/// The step as it stands in a table: a combination names its two lines by their places there. `places` has
-/// the place in the table of each step before this one. None for a step that makes a box.
+/// The step of a leaf as it stands in the table, where a combination names its two lines by their places in
+/// the table. `places` has the place there of each step of the leaf before this one. None for a step that
+/// makes a box, which the table has not.
 pub(crate) fn as_tabled(places: &[u64], step: &Step) -> Option<LineStep>
     ensures { option_map step_of result ≡ as_tabled places.now step.now }
 {
@@ -62,7 +63,8 @@ pub(crate) fn as_tabled(places: &[u64], step: &Step) -> Option<LineStep>
     }
 }
 
-/// The number at a place, 0 where there is none.
+/// The number at `place`, from 0, of the list, or 0 where the list is shorter. Steps that name a step
+/// before them are looked up so.
 pub(crate) fn number_at(numbers: &[u64], place: u64) -> u64
     ensures { result ≡ slice_index_or numbers.now place 0 }
 {

@@ -40,8 +40,8 @@ impl LineTable {
         }
     }
 
-    /// Puts the step at the end, unless an equal one is there. The answer is the place of the step in the
-    /// table, from 0.
+    /// The place, from 0, of this step in the table. A step that the table lacks is put at its end, so its
+    /// place is the last.
     pub(crate) fn find_or_put(&mut self, step: LineStep) -> Result<u64, OutOfMemory>
         ensures table { OnOk result (self.new ≡ with_step self.old (step_of step)) }
         ensures place { IfOk result (λ place. place ≡ place_in self.old (step_of step)) }
@@ -50,7 +50,7 @@ impl LineTable {
         Ok(place as u64)
     }
 
-    /// A copy of the steps, in the order in which they were put in.
+    /// A copy of the steps, in the order in which they were put in, as the table of a proof of version 2.
     pub(crate) fn steps(&self, alloc: Global) -> Result<Sequence<Step>, OutOfMemory>
         ensures { IfOk result (λ steps. steps ≡ self.now) }
     {

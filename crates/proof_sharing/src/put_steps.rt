@@ -11,8 +11,8 @@ use derivation::Step;
 use foundation::OutOfMemory;
 use std::alloc::Global;
 
-/// Puts the steps that give lines into the table, and tells the place of each step there. A step that makes
-/// a box has no place, and 0 stands for it.
+/// Puts the steps of a leaf that give lines into the table, and answers for each step its place there, from
+/// 0. A step that makes a box has no place, and 0 stands for it. A line that is there is not put again.
 pub(crate) fn put_steps(
     alloc: Global,
     table: &mut LineTable,
@@ -29,8 +29,8 @@ pub(crate) fn put_steps(
     Ok(places)
 }
 
-// Puts the step into the table, if it gives a line, and tells its place there, or 0. `places` has those of
-// the steps before it.
+// Puts the step into the table, if it gives a line, and answers its place there, from 0. The answer is 0 for
+// a step that makes a box, too. `places` has, for each step of the leaf before it, the answer for that.
 fn put_step(table: &mut LineTable, places: &[u64], step: &Step) -> Result<u64, OutOfMemory>
     ensures { IfOk result (λ place.
         tabled_of table.new (places.now ++ place ∷ []) ≡ with_tabled (tabled_of table.old places.now) (as_tabled places.now step.now)) }
