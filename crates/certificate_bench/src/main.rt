@@ -27,8 +27,8 @@ fn main(rt: HostRuntime) -> ExitCode {
     leave(alloc, &mut OutPrinter::new(rt), USAGE, told)
 }
 
-// What is printed of the words after the program's name, or why nothing is. The faults are those of
-// `text_of`.
+// Runs the bench by the words after the program's name, and answers what is to be printed. `Fault::Usage`
+// where a word is no text or the words ask for nothing, and else `Fault::OutOfMemory`.
 fn run_bench<R: std::rt::Env + AllocGlobal>(rt: &R, alloc: Global) -> Result<String, Fault> {
     let words = words_of(alloc, env::args(rt))?;
     text_of(alloc, &words)

@@ -24,8 +24,8 @@ fn main(rt: HostRuntime) -> ExitCode {
     leave(alloc, &mut OutPrinter::new(rt), USAGE, told)
 }
 
-// What is printed of the file that the one word names. `Fault::Usage` where there are more words or
-// none, and `Fault::FileUnread` where the file can't be read.
+// Runs the bench on the file that the one word names, and answers what is to be printed. `Fault::Usage`
+// where there are more words or none, or one is no text. `Fault::FileUnread` where the file can't be read.
 fn run_bench(rt: &HostRuntime, alloc: Global) -> Result<String, Fault> {
     let words = words_of(alloc, env::args(rt))?;
     let [name] = words.as_slice() else {

@@ -28,7 +28,8 @@ fn main(rt: HostRuntime) -> ExitCode {
     leave(alloc, &mut OutPrinter::new(rt), USAGE, told)
 }
 
-// What is printed of the files that the words name; `Fault::Usage` where they are not two.
+// Runs the bench on the two files that the words name, and answers what is to be printed. `Fault::Usage`
+// where the words are not two, or one is no text. Else the faults of `bytes_of` and `text_of`.
 fn run_bench(rt: &HostRuntime, alloc: Global) -> Result<String, Fault> {
     let words = words_of(alloc, env::args(rt))?;
     let [rules, records] = words.as_slice() else {
@@ -72,7 +73,8 @@ fn text_of(alloc: Global, rules: &[u8], records: &[u8]) -> Result<String, Fault>
     Ok(search::search_text(alloc, &survey, &sheet)?)
 }
 
-// Why the bench tells nothing of a rule file that is refused.
+// Why the bench tells nothing where a rule file was refused for this `fault`: `Fault::Rules`, or
+// `Fault::OutOfMemory` where memory was refused.
 fn rules_fault(fault: RulesFault) -> Fault
     ensures { result ≡ rules_fault_of fault }
 {
@@ -82,7 +84,8 @@ fn rules_fault(fault: RulesFault) -> Fault
     }
 }
 
-// Why the bench tells nothing of a record file that is refused.
+// Why the bench tells nothing where a record file was refused for this `fault`: `Fault::Records`, or
+// `Fault::OutOfMemory` where memory was refused.
 fn sheet_fault(fault: SheetFault) -> Fault
     ensures { result ≡ sheet_fault_of fault }
 {

@@ -61,8 +61,8 @@ fn push_record(
     Ok(())
 }
 
-// What the search finds of a record with at most the work `budget`, by these edits. The definition of
-// the same name says what that is.
+// What the search finds of a record with at most the work `budget`, by these edits: a least change, or why
+// there is none. The definition of the same name says what that is.
 fn outcome_of(
     alloc: Global,
     survey: &Survey,
@@ -77,8 +77,9 @@ fn outcome_of(
     counted_outcome::<Brand>(alloc, survey, edits, row, budget, Blank::new(1))
 }
 
-// What the search finds of a record with at most the work `budget`. `blank` is one of the ledger `L`
-// (`name`, `parts`), and starts a counter of steps for this call, which nobody reads.
+// What the search finds of a record with at most the work `budget`. The search counts its steps in a
+// ledger, `L`, which contracts alone see. `blank` is of that ledger (`name`, `parts`) and starts the count,
+// which nobody reads here.
 fn counted_outcome<L: Ledger>(
     alloc: Global,
     survey: &Survey,
