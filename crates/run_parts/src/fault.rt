@@ -187,8 +187,8 @@ impl From<CheckFault> for Fault<'_> {
 }
 
 impl RecordsFault {
-    // What `fault` says of records of these fields that were not read, with a field by its name and not
-    // its number. None where memory was refused, which says nothing of the records.
+    // What `fault` says of a file of records that was not read. A field, which `fault` tells by its number
+    // in `fields`, is told by its name. None where memory was refused, which says nothing of the records.
     fn of(fields: &[Field], fault: SheetFault) -> Option<RecordsFault>
         requires { IsOfFields fields.now fault }
         ensures { result ≡ records_fault_of fields.now fault }
@@ -259,8 +259,8 @@ fn rejected_line(alloc: Global, line: u64, why: Why) -> Result<Vec<u8>, OutOfMem
     Ok(format!(in alloc; "fault: proof line {line} {why}")?.into_bytes())
 }
 
-// A copy of the name of the field of this number, from 0. `Name::new` takes the bytes, since they are a
-// name's already.
+// A copy of the name of the field of this number, from 0. `Name::new` never refuses the bytes, since they
+// are a name's already.
 fn name_of(fields: &[Field], number: u32) -> Name
     requires { number < length fields.now }
     ensures { result ≡ name_of fields.now number }
@@ -271,7 +271,7 @@ fn name_of(fields: &[Field], number: u32) -> Name
     name
 }
 
-// The bytes of both texts, one after the other.
+// The bytes of both texts, one after the other, such as the words of a fault and the name of a file.
 fn join_bytes(alloc: Global, first: &[u8], second: &[u8]) -> Result<Vec<u8>, OutOfMemory>
     ensures { IfOk result (λ all. all.items ≡ first.now ++ second.now) }
 {

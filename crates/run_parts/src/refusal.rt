@@ -33,7 +33,8 @@ impl<'a> Model for Refusal<'a> {
 }
 
 impl<'a> Refusal<'a> {
-    /// The refusal for `fault`, with its line. `Err` where memory for the line is refused.
+    /// The refusal for `fault`, with its line. `Err` where memory for the line is refused, so that a caller
+    /// that makes it before a call to the desk can end there.
     pub fn new(alloc: Global, fault: Fault<'a>) -> Result<Refusal<'a>, OutOfMemory>
         ensures { IfOk result (λ refusal. refusal ≡ fault.entry) }
     {
@@ -44,7 +45,8 @@ impl<'a> Refusal<'a> {
         })
     }
 
-    /// The refusal for `fault`, or that for want of memory where memory for the fault's line is refused.
+    /// The refusal for `fault`, or that for want of memory where memory for its line is refused. So a caller
+    /// has a refusal in any case.
     pub fn of(alloc: Global, fault: Fault<'a>) -> Refusal<'a>
         ensures { (result ≡ fault.entry) ⊎ (result ≡ faults.OutOfMemory) }
     {
