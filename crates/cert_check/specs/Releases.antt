@@ -101,7 +101,7 @@ next_texts said (texts ∷ released) = if is_released said then Some texts else 
 abbrev pub files_of : RowProof → List (List ℕ) → List Value → List (List (List ℕ)) → RowFiles
 files_of said reads row released = record { reads = reads; row = row; texts = next_texts said released }
 
--- the released rows of the records behind one
+-- the released rows that are left for the records behind this one: all but the first, if this one is released
 abbrev pub behind : RowProof → List (List (List ℕ)) → List (List (List ℕ))
 behind said [] = []
 behind said (texts ∷ released) = if is_released said then released else texts ∷ released

@@ -25,8 +25,8 @@ use foundation::{OutOfMemory, Sequence};
 use proof_text::ProofFile;
 use std::alloc::Global;
 
-/// The number, from 1, of the first line of the proof at which what it says of the lines of the rules is
-/// not right, or None. The first verdict stands on line 4, behind the version, the limits and the count.
+/// The number, from 1, of the first line of the proof whose verdict on a line of the rules is not right, or
+/// None. The first verdict stands on line 4, behind the version, the limits and the count of verdicts.
 /// `lines` are lent for writing, so that none is copied for each line that is dropped.
 pub(crate) fn drop_fault(
     alloc: Global,

@@ -13,9 +13,9 @@ use foundation::OutOfMemory;
 use record_text::{Sheet, SheetFault, Texts, read_records};
 use std::alloc::Global;
 
-/// The rows of the released bytes, where these are a record file with this `header` and `count` rows, each
-/// of as many texts as the header. None where they are not. The file is read as one of no fields, so that
-/// its texts stand for no values yet.
+/// The rows of the released bytes, where these are a record file with this `header` and `count` rows. Each
+/// row has to have as many texts as the header. None where the bytes are no such file. It is read as one of
+/// no fields, so that its texts stand for no values yet.
 pub(crate) fn released_rows(
     alloc: Global,
     header: &Texts,

@@ -20,8 +20,8 @@ use record_text::Texts;
 use std::alloc::Global;
 
 /// Whether the released file has the right row for the record, of which `path` changes some fields or
-/// none. It is right where it has the texts that were read, but for other values at the changed fields,
-/// and the record is clean with these. False where the released file has no row for the record.
+/// none. A right row has the texts that were read, but for other values at the changed fields. With these
+/// the record is clean. False where the released file has no row for the record.
 pub(crate) fn has_right_row(
     alloc: Global,
     checking: &Checking,

@@ -58,8 +58,8 @@ pub(crate) fn rows_fault(
     Ok(None)
 }
 
-// The record of the number `row_no`, from 0: what was read of it, and the released row at place `next`, if
-// the proof says that it is released. `place` is where the proof speaks of it.
+// What is looked at of the record of the number `row_no`, from 0. It is what was read of it, and the row at
+// `next` if the proof says that it is released. `place` is where the proof speaks of it.
 fn files_at<'a>(
     place: &RowPlace,
     records: &'a Sheet,

@@ -29,9 +29,9 @@ pub(crate) fn gift_exists(survey: &Survey, fault: GiftFault) -> bool
     }
 }
 
-/// Whether the path has at most as many letters as there are fields, and the survey has the field at which
-/// a number left the range in the search, as the proof says. Which number it was, is taken on trust. No
-/// memory.
+/// Whether the survey has what the proof names where a number left the range in the search: as many fields
+/// as the path has letters, or more, and the field of the number, if it is not a line's constant. Which
+/// number it was, is taken on trust. No memory.
 pub(crate) fn event_exists(survey: &Survey, path: &Path, event: Event) -> bool
     ensures { result ≡ event_exists survey.now.fields path.now event }
 {

@@ -18,7 +18,7 @@ use proof_text::ProofFile;
 use std::alloc::Global;
 
 /// The number, from 1, of the first line of the proof at which a step of its table gives no line. None
-/// where each step gives one; then the lines of the table are put behind those of the rules in `lines`,
+/// where each step gives one. Then the lines of the table are put behind those of the rules in `lines`,
 /// and are marked as usable. Before, `lines` are those of the rules, and `usable` says which are kept.
 pub(crate) fn table_fault(
     alloc: Global,

@@ -14,11 +14,11 @@ use Rattle.cert_check.specs.declared.checking.RowAt.{RowAt}
 
 -- The parts of the audit. Private contracts alone cite this page.
 
--- by what the records are checked
+-- by what the records are checked, as a value
 abbrev pub rules_in : Checking → RowRules
 rules_in c = record { survey = c.survey.now; given = c.given.now; usable = c.usable.now; columns = c.columns.now; budget = c.budget }
 
--- a record
+-- a record as it was read, and the texts that are released of it, as a value
 abbrev pub files_in : RowAt → RowFiles
 files_in f = record { reads = f.reads.now; row = f.row.now; texts = option_map (λ t. t.now) f.texts }
 
