@@ -30,7 +30,7 @@ abbrev pub EndsAt : LinesLeft → ProofFault → Type 0
 EndsAt lines (fault.At line) = ((lines.left ≡ []) ⊎ (lines.left ≡ [] ∷ [])) × IsNumberOf line lines.left lines.all
 EndsAt lines fault.OutOfMemory = ⊥
 
--- nothing is left, or this is the number of what is left
+-- nothing is left, or the fault is at the number of the first line that is left
 abbrev pub IsEnd : {X : Type 0} → Result X ProofFault → LinesLeft → Type 0
 IsEnd (Ok done) lines = lines.left ≡ []
 IsEnd (Err (fault.At line)) lines = (lines.left ≢ []) × IsNumberOf line lines.left lines.all
@@ -43,7 +43,7 @@ FaultAt stop.Form lines fault.OutOfMemory = ⊥
 FaultAt stop.OutOfMemory lines (fault.At line) = ⊥
 FaultAt stop.OutOfMemory lines fault.OutOfMemory = Unit {0}
 
--- what was read of a line, as an answer
+-- what was read of the line that was taken last, as an answer: a line without its form is the fault at its number
 abbrev pub Settles : {X : Type 0} → Result X Stop → LinesLeft → Result X ProofFault → Type 0
 Settles (Ok x) lines result = result ≡ Ok x
 Settles (Err stop) lines (Ok x) = ⊥

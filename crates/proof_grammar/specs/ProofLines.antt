@@ -26,7 +26,7 @@ Line = List (List ℕ)
 
 -- ---- words
 
--- 0 is none
+-- the name, from 1, of what has this number, from 0; the word 0 where there is none
 abbrev pub named_or_0 : Option ℕ → List ℕ
 named_or_0 None = codes "0"
 named_or_0 (Some i) = named i

@@ -8,7 +8,7 @@ abbrev pub then_in : {X Y : Type 0} → Front X → (X → Line → Option Y) �
 then_in None next = None
 then_in (Some (x, ws)) next = next x ws
 
--- all words
+-- what the first word says before what the later ones say; None where either says nothing
 abbrev pub consed : {X : Type 0} → Option X → Option (List X) → Option (List X)
 consed None xs = None
 consed (Some x) None = None
