@@ -11,8 +11,8 @@ use derivation::Step;
 use foundation::{OutOfMemory, Sequence};
 use std::alloc::Global;
 
-/// The steps that are left to a leaf that a line refutes: one step alone, which names in the table the last
-/// of the leaf's lines. That line is the one that refutes.
+/// The steps that are left to a leaf that a line refutes. It is one step alone, which names in the table the
+/// last of the leaf's lines, since that is the one that refutes.
 pub(crate) fn shared_line(
     alloc: Global,
     given: u64,
