@@ -10,8 +10,8 @@ pub(crate) fn has_table(version: u32) -> bool
     version == 2
 }
 
-/// The number of given lines behind which those of the table are numbered: `count`, that of the lines of
-/// the rules. None where no table is `there`.
+/// The number of the lines of the rules (`count`), behind which those of a table are numbered. None where
+/// the file has no table (`there`), so that no line is numbered so.
 pub(crate) fn shared_from(there: bool, count: usize) -> Option<u64>
     ensures { result ≡ shared_from there count }
 {
