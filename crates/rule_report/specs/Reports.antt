@@ -41,7 +41,7 @@ abbrev pub texts_of : List Field → ℕ → LineParts → Verdict → List (Lis
 texts_of fields number line verdict =
     head_text fields number line verdict ∷ map step_text (steps_of verdict)
 
--- of the lines from this number on
+-- what is printed of lines that are numbered from this one on, as far as each has a verdict
 abbrev pub reports_from : List Field → ℕ → List LineParts → List Verdict → List (List ℕ)
 reports_from fields number (line ∷ lines) (verdict ∷ verdicts) =
     texts_of fields number line verdict ++ reports_from fields (suc number) lines verdicts

@@ -42,7 +42,8 @@ fn tests_of(
     Ok(tests)
 }
 
-// Puts last that the field's code is in the set, where that is not `whole`, the set of all its codes.
+// Puts behind the others the condition that the field's code is in `set`. Nothing is put where the set is
+// `whole`, the set of all codes of the field, since that asks nothing.
 fn push_test(tests: &mut Vec<Test>, field: u32, set: u64, whole: u64) -> Result<(), OutOfMemory>
     ensures { OnOk result (tests.new.items ≡ tests.old.items ++ (if set == whole then [] else test.Codes field false set ∷ [])) }
 {

@@ -37,8 +37,8 @@ pub fn report(
     Ok(texts)
 }
 
-// Puts the texts of one line last: its head, and the steps of a dropped one. `number` is the line's,
-// from 1.
+// Puts the texts of one line of the rules behind the others: its head, and the steps of a dropped one.
+// `number` is the line's, from 1.
 fn push_texts(
     alloc: Global,
     texts: &mut Vec<Vec<u8>>,
@@ -92,7 +92,7 @@ fn verdict_text(verdict: &Verdict) -> &'static [u8]
     }
 }
 
-// Puts the texts of the steps last, one a line.
+// Puts the texts of the steps behind the others, one for each step.
 fn push_steps(alloc: Global, texts: &mut Vec<Vec<u8>>, steps: &[Step]) -> Result<(), OutOfMemory>
     ensures { OnOk result (texts_in texts.new.items ≡ texts_in texts.old.items ++ map step_text steps.now) }
 {

@@ -107,8 +107,8 @@ fn counted_outcome<L: Ledger>(
     )
 }
 
-// What is told of a record: `clean` for a change of weight 0, its weight in decimal for any other change,
-// and else one word for why none was found.
+// What is told of a record. It is `clean` for a change of weight 0, and its weight in decimal for any other
+// change. Where none was found, it is one word for why.
 fn word_of(alloc: Global, outcome: &Outcome) -> Result<String, OutOfMemory>
     ensures { IfOk result (λ word. string_bytes word ≡ word_of outcome.now) }
 {

@@ -16,7 +16,7 @@ path_to depth number = map (λ place. bit_at number (depth - 1 - place) == 1) (r
 abbrev pub step_where : Bool → Bool → Step
 step_where broken last = if broken && last then step.Given 1 else step.Given 0
 
--- this number of steps
+-- this number of steps; in a broken list the last one names a line that is not there
 abbrev pub steps_of : ℕ → Bool → List Step
 steps_of count broken = map (λ place. step_where broken (place + 1 == count)) (range_with_len 0 count)
 
@@ -24,10 +24,10 @@ steps_of count broken = map (λ place. step_where broken (place + 1 == count)) (
 abbrev pub is_broken_leaf : Plan → ℕ → Bool
 is_broken_leaf plan number = plan.broken && (number + 1 == 2 ^ plan.depth)
 
--- the leaf of a number
+-- the leaf of a number, from 0
 abbrev pub leaf_at : Plan → ℕ → Leaf
 leaf_at plan number = record { path = path_to plan.depth number; why = why.Line (steps_of plan.steps (is_broken_leaf plan number)) }
 
--- all leaves of the full tree
+-- all leaves of the full tree of this plan, in order
 abbrev pub leaves_of : Plan → List Leaf
 leaves_of plan = map (λ number. leaf_at plan number) (range_with_len 0 (2 ^ plan.depth))
