@@ -14,12 +14,12 @@ ghost use Rattle.derivation.specs.Shown.{IsOver, IsShown};
 ghost use Rattle.derivation.specs.ValidSteps.{AreValidSteps, IsFirstInvalid, last_proved, proved_by, proved_from};
 
 use crate::basis::Basis;
-use crate::combining::{Multipliers, combined};
-use crate::covering::covered;
-use crate::failing::failed;
+use crate::combining::{Multipliers, combine_step};
+use crate::covering::cover_step;
+use crate::failing::fail_step;
 use crate::fault::StepsFault;
-use crate::fixing::fixed;
-use crate::given::given;
+use crate::fixing::fix_step;
+use crate::given::given_step;
 use crate::known::Known;
 use crate::proved::Proved;
 use crate::step::Step;
@@ -114,17 +114,17 @@ fn made_by<'a>(
     ensures { IfOk result (λ made. meant made ≡ proved_by (premises basis.now) (map meaning known.now) step.now) }
 {
     match step {
-        Step::Given(place) => Ok(given(basis, *place)),
+        Step::Given(place) => Ok(given_step(basis, *place)),
         Step::Combine { a, m, b, n, g } => {
             let by = Multipliers {
                 first: *m,
                 second: *n,
                 divisor: *g,
             };
-            combined(alloc, basis, known, *a, *b, by)
+            combine_step(alloc, basis, known, *a, *b, by)
         }
-        Step::Fail(a) => failed(alloc, basis, known, *a),
-        Step::Cover { field, parts } => covered(alloc, basis, known, *field, parts.as_slice()),
-        Step::Fix { field, part } => fixed(alloc, basis, known, *field, *part),
+        Step::Fail(a) => fail_step(alloc, basis, known, *a),
+        Step::Cover { field, parts } => cover_step(alloc, basis, known, *field, parts.as_slice()),
+        Step::Fix { field, part } => fix_step(alloc, basis, known, *field, *part),
     }
 }

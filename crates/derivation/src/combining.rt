@@ -29,7 +29,7 @@ pub(crate) struct Multipliers {
 /// What a step proves that combines the lines at the places `a` and `b`: the sum of their multiples,
 /// divided. None where no line was proved at one of the places, or where the lines may not be combined so,
 /// as `combined_lines` tells.
-pub(crate) fn combined<'a>(
+pub(crate) fn combine_step<'a>(
     alloc: Global,
     basis: &Basis<'a>,
     known: &[Known<'a>],
@@ -78,7 +78,7 @@ pub(crate) fn combined_lines(
     let mut sum = s.copy(alloc)?;
     match sum.write_sum(by.first, s, by.second, t) {
         Some(_) => Ok(None),
-        None => Ok(divided(sum, by.divisor)),
+        None => Ok(exact_quotient(sum, by.divisor)),
     }
 }
 
@@ -91,7 +91,7 @@ fn are_allowed(by: Multipliers, s: &Line, t: &Line) -> bool
 }
 
 // The line with its numbers divided, or None where that leaves a remainder.
-fn divided(mut line: Line, divisor: i128) -> Option<Line>
+fn exact_quotient(mut line: Line, divisor: i128) -> Option<Line>
     requires { pos 0 <ℤ divisor }
     ensures { lined result ≡ only_if (divides divisor line) (Proved.Line (divided_by divisor line)) }
 {

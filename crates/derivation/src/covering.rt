@@ -20,7 +20,7 @@ use std::alloc::Global;
 /// What a step proves that covers the field by these parts: the box of what their boxes have in common on
 /// the other fields, whole at the field. None unless the field is categorical and has one part for each
 /// code, in declared order. Each part has to be a box with its code, and no set may come out empty.
-pub(crate) fn covered<'a>(
+pub(crate) fn cover_step<'a>(
     alloc: Global,
     basis: &Basis<'a>,
     known: &[Known<'a>],

@@ -18,7 +18,7 @@ use std::alloc::Global;
 
 /// What a step proves that makes a box of the line at the place: the box of its sets. None where no line
 /// was proved there, or the line does not fail at the kept fields, as `fails_at_kept` tells.
-pub(crate) fn failed<'a>(
+pub(crate) fn fail_step<'a>(
     alloc: Global,
     basis: &Basis<'a>,
     known: &[Known<'a>],

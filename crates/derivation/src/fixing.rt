@@ -20,7 +20,7 @@ use std::alloc::Global;
 /// What a step proves that fixes the field in the box at `part`: that box, made whole at the field. None
 /// unless the field is categorical and kept, a box was proved at `part`, and it has the record's code
 /// there.
-pub(crate) fn fixed<'a>(
+pub(crate) fn fix_step<'a>(
     alloc: Global,
     basis: &Basis<'a>,
     known: &[Known<'a>],

@@ -12,7 +12,7 @@ use edit_line::Line;
 
 /// What a step proves that takes the given line at the place; None where there is none or it is not usable.
 /// No memory.
-pub(crate) fn given<'a>(basis: &Basis<'a>, place: u64) -> Option<Known<'a>>
+pub(crate) fn given_step<'a>(basis: &Basis<'a>, place: u64) -> Option<Known<'a>>
     requires { IsBasis basis.now }
     ensures { meant result ≡ given_line (premises basis.now) place }
 {

@@ -29,8 +29,8 @@ returns-in-Some c =
     ≡ true = sym (c.all_meet.ensures ∙ (λ i. all_meet (c.sets.ensures.sets i) (c.sets-else-not-are_allowed.ensures.sets i))) ∙ c.if-not-all_meet.false in
     overflowing by.first by.second by.divisor c.args.s.now c.args.t.now allowed meet c.in-Some.field-0 (sym place_is ∙ c.in-Some.is)
 
-pub divided-requires : goal.divided-requires
-divided-requires c =
+pub exact_quotient-requires : goal.exact_quotient-requires
+exact_quotient-requires c =
     let by = c.args.by in
     let g_fits : FitsSigned w128 by.divisor = search rules in
     let allowed = sym c.are_allowed.ensures ∙ c.if-not-are_allowed.false in
@@ -44,7 +44,7 @@ returns-in-None c =
     let g_fits : FitsSigned w128 by.divisor = search rules in
     let place_is = simp to_z-of_z at c.write_sum.ensures.place in
     let sum_is = simp to_z-of_z at (c.write_sum.ensures.sum c.in-None.is) in
-    let told = simp to_z-of_z at c.divided.ensures in
+    let told = simp to_z-of_z at c.exact_quotient.ensures in
     let allowed = sym c.are_allowed.ensures ∙ c.if-not-are_allowed.false in
     let meet : all_meet c.args.s.now.sets c.args.t.now.sets
     ≡ true = sym (c.all_meet.ensures ∙ (λ i. all_meet (c.sets.ensures.sets i) (c.sets-else-not-are_allowed.ensures.sets i))) ∙ c.if-not-all_meet.false in
