@@ -313,7 +313,7 @@ fn take_line<L: Ledger>(
     ensures over { work.new.line.shape ≡ work.old.line.shape }
 {
     if given.column.is_lower(&s.derived.line) {
-        take_row(alloc, given, uppers, s, work, steps)
+        take_opposites(alloc, given, uppers, s, work, steps)
     } else {
         Ok(())
     }
@@ -321,7 +321,7 @@ fn take_line<L: Ledger>(
 
 // Takes in the combinations of the line `s`, which bounds the field from below, with those that are
 // opposite to it. Only the lines that bound the field from above, at the places `uppers`, are looked at.
-fn take_row<L: Ledger>(
+fn take_opposites<L: Ledger>(
     alloc: Global,
     given: &StepLines,
     uppers: &[usize],

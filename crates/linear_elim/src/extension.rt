@@ -47,13 +47,13 @@ pub fn extend<L: Ledger>(
         ≡ pairs_at system.now.edits system.now.fields + pairs_count system.now.lines field }
 {
     match reduced_step(alloc, system.lines(), field, steps) {
-        Ok(lines) => Ok(extended(system, field, lines)?),
+        Ok(lines) => Ok(system_with(system, field, lines)?),
         Err(fault) => Err(at_field(fault, field)),
     }
 }
 
 // The system with the field, of these lines, which the step at the field made.
-fn extended(system: &System, field: u32, lines: Vec<Derived>) -> Result<System, OutOfMemory>
+fn system_with(system: &System, field: u32, lines: Vec<Derived>) -> Result<System, OutOfMemory>
     requires numerical { IsNumerical system.now.edits.shape field }
     requires lines { system_at system.now.edits (with_number system.now.fields field) ≡ Ok lines.items }
     ensures system { IfOk result (λ more. more ≡ parts_of_system system.now.edits (with_number system.now.fields field) lines.items) }

@@ -96,7 +96,7 @@ fn fold_lines<L: Ledger>(
 
 // The lines of the fold so far: those of the last step, or those that the fold begins with, `base`, where
 // no step was taken yet.
-fn so_far<'a>(base: &'a [Derived], lines: &'a Option<Vec<Derived>>) -> &'a [Derived]
+fn current_lines<'a>(base: &'a [Derived], lines: &'a Option<Vec<Derived>>) -> &'a [Derived]
     ensures { result.now ≡ so_far base.now lines.now }
 {
     match lines {
@@ -139,7 +139,7 @@ fn next_lines<L: Ledger>(
     if field.codes > 0 || !fields.has(field.number) {
         return Ok(lines);
     }
-    match reduced_step(alloc, so_far(base, &lines), field.number, steps) {
+    match reduced_step(alloc, current_lines(base, &lines), field.number, steps) {
         Ok(next) => Ok(Some(next)),
         Err(fault) => Err(at_field(fault, field.number)),
     }

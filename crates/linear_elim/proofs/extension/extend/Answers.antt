@@ -27,8 +27,8 @@ reduced_step-requires-clause-own g c =
     system-own system.edits system.fields c.args.field c.requires.numerical c.requires.past c.lines.result.now
     (c.lines.ensures.system.lines_are ∙ ap (λ (ls : List Derived). Ok ls) (sym c.lines.ensures.lines))
 
-pub extended-requires-clause-lines : goal.extended-requires-clause-lines
-extended-requires-clause-lines g c =
+pub system_with-requires-clause-lines : goal.system_with-requires-clause-lines
+system_with-requires-clause-lines g c =
     let system = c.args.system.now in
     step-extends system.edits system.fields c.args.field c.requires.numerical c.requires.past c.lines.result.now
     (c.lines.ensures.system.lines_are ∙ ap (λ (ls : List Derived). Ok ls) (sym c.lines.ensures.lines)) c.in-Ok.lines.items c.in-Ok.ensures.exact
@@ -39,11 +39,11 @@ module _ (system : SystemParts) (field : ℕ) where
       → pairs_at system.edits (with_number system.fields field) ≡ pairs_at system.edits system.fields + pairs_count system.lines field
   more_pairs is number past = pairs-next system.edits system.fields field number past system.lines is.lines_are
 
-pub returns-in_err-extended-in-Ok-clause-pairs : goal.returns-in_err-extended-in-Ok-clause-pairs
-returns-in_err-extended-in-Ok-clause-pairs g c = more_pairs c.args.system.now c.args.field c.lines.ensures.system c.requires.numerical c.requires.past
+pub returns-in_err-system_with-in-Ok-clause-pairs : goal.returns-in_err-system_with-in-Ok-clause-pairs
+returns-in_err-system_with-in-Ok-clause-pairs g c = more_pairs c.args.system.now c.args.field c.lines.ensures.system c.requires.numerical c.requires.past
 
-pub returns-in_ok-extended-in-Ok-clause-pairs : goal.returns-in_ok-extended-in-Ok-clause-pairs
-returns-in_ok-extended-in-Ok-clause-pairs g c = more_pairs c.args.system.now c.args.field c.lines.ensures.system c.requires.numerical c.requires.past
+pub returns-in_ok-system_with-in-Ok-clause-pairs : goal.returns-in_ok-system_with-in-Ok-clause-pairs
+returns-in_ok-system_with-in-Ok-clause-pairs g c = more_pairs c.args.system.now c.args.field c.lines.ensures.system c.requires.numerical c.requires.past
 
 pub returns-in-Err-clause-pairs : goal.returns-in-Err-clause-pairs
 returns-in-Err-clause-pairs g c = more_pairs c.args.system.now c.args.field c.lines.ensures.system c.requires.numerical c.requires.past

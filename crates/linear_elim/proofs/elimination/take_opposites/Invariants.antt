@@ -2,7 +2,7 @@ use Rattle.std.proofs.Common.{◌≡◌, ◌≤◌, ◌+◌, drop}
 use Rattle.linear_elim.specs.Steps.{is_opposite, pair_result}
 use Rattle.linear_elim.specs.inner.Taken.{taken_in}
 use Rattle.linear_elim.specs.inner.Uppers.{collect_at, count_at}
-use Rattle.linear_elim.proofs.elimination.take_row.Given as goal
+use Rattle.linear_elim.proofs.elimination.take_opposites.Given as goal
 
 abbrev pub invariant-loop-place : goal.invariant-loop-place
 invariant-loop-place g l =

@@ -5,7 +5,7 @@ use Rattle.linear_elim.specs.inner.Taken.{taken_in}
 use Rattle.linear_elim.specs.inner.Uppers.{collect_at}
 use Rattle.linear_elim.proofs.StepLoops.{fault-of-rest, handed-on, if_told}
 use Rattle.linear_elim.proofs.UpperLaws.{count-uppers, places-end, places-fault, places-more, places_count-end, places_count-more, row-uppers}
-use Rattle.linear_elim.proofs.elimination.take_row.Goals as goal
+use Rattle.linear_elim.proofs.elimination.take_opposites.Goals as goal
 
 pub loop-place-preserved : goal.loop-place-preserved
 loop-place-preserved g c =

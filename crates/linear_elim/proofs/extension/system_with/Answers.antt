@@ -4,7 +4,7 @@ use Rattle.edit_line.specs.EditSets.{EditsParts, IsReducedOf}
 use Rattle.linear_elim.specs.Parts.{IsMade, parts_of_system}
 use Rattle.linear_elim.proofs.ExtensionLaws.{numerical-more}
 use Rattle.linear_elim.proofs.MadeLaws.{system-made}
-use Rattle.linear_elim.proofs.extension.extended.Goals as goal
+use Rattle.linear_elim.proofs.extension.system_with.Goals as goal
 
 pub of-requires : goal.of-requires
 of-requires c =
