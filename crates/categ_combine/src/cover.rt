@@ -11,7 +11,7 @@ ghost use Rattle.categ_combine.specs.Covers.{cover_parts, joined_for, meets_but,
 
 use crate::box_from::{BoxFrom, BoxOrigin};
 use crate::code_field::set_at;
-use crate::reduction::{lie_inside, put_in};
+use crate::reduction::{lie_inside, replace_inside};
 use crate::spot::{CodeAt, Spot};
 use edit_line::{CodeBox, has_code, has_codes, narrow};
 use foundation::{OutOfMemory, Sequence};
@@ -43,7 +43,7 @@ pub(crate) fn with_code(
         sets: Vec::new(alloc),
     };
     for cover in covers {
-        take_row(alloc, &mut work, boxes, cover, at)?;
+        take_intersections(alloc, &mut work, boxes, cover, at)?;
     }
     Ok(work.next)
 }
@@ -59,7 +59,7 @@ pub(crate) fn takes_part(b: &BoxFrom, at: &CodeAt) -> bool
 }
 
 // Takes what the cover has in common with each box that takes part for the code into the next covers.
-fn take_row(
+fn take_intersections(
     alloc: Global,
     work: &mut CoverWork,
     boxes: &[BoxFrom],
@@ -72,7 +72,7 @@ fn take_row(
         (row_of at.now.spot.place at.now.spot.whole at.now.code boxes.now cover.now)) }
 {
     for (i, b) in boxes.iter().enumerate() {
-        take_joined(alloc, work, cover, at, i as u64, b)?;
+        take_intersection(alloc, work, cover, at, i as u64, b)?;
     }
     Ok(())
 }
@@ -80,7 +80,7 @@ fn take_row(
 // Takes what the cover has in common with the box `b`, at the place, into the next covers; the box is then
 // its next part. It is left out where the box does not take part for the code, or where a set comes out
 // empty. No box is made of what is left out.
-fn take_joined(
+fn take_intersection(
     alloc: Global,
     work: &mut CoverWork,
     cover: &BoxFrom,
@@ -96,7 +96,7 @@ fn take_joined(
     if !takes_part(b, at) {
         return Ok(());
     }
-    write_joined(&mut work.sets, cover, &at.spot, b)?;
+    write_intersection(&mut work.sets, cover, &at.spot, b)?;
     if has_codes(&work.sets) {
         take_sets(alloc, &mut work.next, &work.sets, cover, place)
     } else {
@@ -106,7 +106,7 @@ fn take_joined(
 
 // Writes into `sets` what the cover and the box have in common on the other fields, and the whole set at
 // the spot's field.
-fn write_joined(
+fn write_intersection(
     sets: &mut Vec<u64>,
     cover: &BoxFrom,
     spot: &Spot,
@@ -140,9 +140,9 @@ fn take_sets(
         return Ok(());
     }
     let code_box = CodeBox::over(cover.shape(), Vec::from_slice(alloc, sets)?);
-    let parts = longer(alloc, parts_of(&cover.origin), place)?;
+    let parts = with_part(alloc, parts_of(&cover.origin), place)?;
     let origin = BoxOrigin::Cover(Sequence::from_vec(parts));
-    put_in(next, BoxFrom { code_box, origin })
+    replace_inside(next, BoxFrom { code_box, origin })
 }
 
 // The places of a cover's parts; a box that is no cover has none.
@@ -156,7 +156,7 @@ fn parts_of(origin: &BoxOrigin) -> &[u64]
 }
 
 // The list with one more number behind it.
-fn longer(alloc: Global, parts: &[u64], part: u64) -> Result<Vec<u64>, OutOfMemory>
+fn with_part(alloc: Global, parts: &[u64], part: u64) -> Result<Vec<u64>, OutOfMemory>
     ensures { IfOk result (λ all. all.items ≡ parts.now ++ part ∷ []) }
 {
     let mut all = Vec::with_capacity(alloc, parts.len().saturating_add(1))?;

@@ -18,7 +18,7 @@ ghost use Rattle.categ_combine.specs.declared.box_from.BoxOrigin.TheVariants.{Fi
 
 use crate::box_from::{BoxFrom, BoxOrigin};
 use crate::code_field::{set_at, spot_of};
-use crate::reduction::put_in;
+use crate::reduction::replace_inside;
 use crate::spot::Spot;
 use edit_line::{CodeBox, has_code};
 use foundation::OutOfMemory;
@@ -173,7 +173,7 @@ fn take_unchanged(
         kept.push(new)?;
         Ok(())
     } else {
-        put_in(kept, new)
+        replace_inside(kept, new)
     }
 }
 
@@ -210,7 +210,7 @@ fn put_beside(kept: &mut Vec<BoxFrom>, new: BoxFrom, apart: bool) -> Result<(), 
     if lie_in_compared(new.sets(), kept, apart) {
         return Ok(());
     }
-    put_in(kept, new)
+    replace_inside(kept, new)
 }
 
 // Whether the sets lie inside those of a kept box, of the kept boxes with which they are compared.

@@ -16,7 +16,7 @@ pub(crate) fn take_in(kept: &mut Vec<BoxFrom>, new: BoxFrom) -> Result<(), OutOf
     if lie_inside(new.sets(), kept) {
         return Ok(());
     }
-    put_in(kept, new)
+    replace_inside(kept, new)
 }
 
 /// Whether the sets lie inside those of a kept box.
@@ -27,7 +27,7 @@ pub(crate) fn lie_inside(sets: &[u64], kept: &[BoxFrom]) -> bool
 }
 
 /// Appends the box, and removes the kept ones that lie inside it.
-pub(crate) fn put_in(kept: &mut Vec<BoxFrom>, new: BoxFrom) -> Result<(), OutOfMemory>
+pub(crate) fn replace_inside(kept: &mut Vec<BoxFrom>, new: BoxFrom) -> Result<(), OutOfMemory>
     ensures { OnOk result (kept.new.items
         ≡ filter (λ b. not (are_subsets b.code_box.sets new.code_box.sets)) kept.old.items ++ new ∷ []) }
 {

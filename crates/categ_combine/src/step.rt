@@ -114,7 +114,7 @@ fn step_over(
     match covers_of(alloc, boxes, &spot, size, most)? {
         None => Ok(Covered::Passed),
         Some(covers) => {
-            let kept = with_all(unchanged(alloc, boxes, &spot, apart)?, covers.boxes)?;
+            let kept = with_all(whole_boxes(alloc, boxes, &spot, apart)?, covers.boxes)?;
             Ok(Covered::Done {
                 boxes: Sequence::from_vec(kept),
                 pairs: covers.pairs,
@@ -189,7 +189,7 @@ fn parts_for(boxes: &[BoxFrom], at: &CodeAt) -> usize
 
 // The boxes that are whole at the spot's field, without those that lie inside another. Where `apart` says
 // that the boxes lie apart, none does.
-fn unchanged(
+fn whole_boxes(
     alloc: Global,
     boxes: &[BoxFrom],
     spot: &Spot,
@@ -200,7 +200,7 @@ fn unchanged(
     ensures kept { IfOk result (λ kept. kept.items ≡ reduce_from (each_from (unchanged_one spot.now.place spot.now.whole) 0 boxes.now)) }
     ensures fit { OnOk result (AreBoxes boxes.now) }
 {
-    let whole = whole_ones(alloc, boxes, spot)?;
+    let whole = whole_copies(alloc, boxes, spot)?;
     if apart {
         Ok(whole)
     } else {
@@ -209,7 +209,7 @@ fn unchanged(
 }
 
 // Copies of the boxes that are whole at the spot's field, each with its place as its origin.
-fn whole_ones(alloc: Global, boxes: &[BoxFrom], spot: &Spot) -> Result<Vec<BoxFrom>, OutOfMemory>
+fn whole_copies(alloc: Global, boxes: &[BoxFrom], spot: &Spot) -> Result<Vec<BoxFrom>, OutOfMemory>
     requires { AreBoxesOver (domains spot.now.shape) boxes.now }
     ensures whole { IfOk result (λ whole. whole.items ≡ each_from (unchanged_one spot.now.place spot.now.whole) 0 boxes.now) }
     ensures fit { OnOk result (AreBoxes boxes.now) }

@@ -1,6 +1,6 @@
 use Rattle.std.proofs.Common.{sym, ◌∙◌}
 use Rattle.categ_combine.proofs.ApartLaws.{unchanged-apart}
-use Rattle.categ_combine.proofs.step.unchanged.Goals as goal
+use Rattle.categ_combine.proofs.step.whole_boxes.Goals as goal
 
 pub returns-then-apart-clause-kept : goal.returns-then-apart-clause-kept
 returns-then-apart-clause-kept c =

@@ -5,7 +5,7 @@ use Rattle.categ_combine.specs.Covers.{unchanged_one}
 use Rattle.categ_combine.specs.Each.{each_from}
 use Rattle.categ_combine.specs.declared.box_from.BoxFrom.{BoxFrom}
 use Rattle.categ_combine.proofs.EachLaws.{each-next}
-use Rattle.categ_combine.proofs.step.whole_ones.Goals as goal
+use Rattle.categ_combine.proofs.step.whole_copies.Goals as goal
 
 pub loop-i-preserved : goal.loop-i-preserved
 loop-i-preserved c =

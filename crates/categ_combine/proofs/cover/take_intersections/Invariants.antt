@@ -3,7 +3,7 @@ use Rattle.std.specs.List.{fold}
 use Rattle.categ_combine.specs.BoxLists.{with_from}
 use Rattle.categ_combine.specs.Covers.{joined_for}
 use Rattle.categ_combine.specs.Each.{each_from}
-use Rattle.categ_combine.proofs.cover.take_row.Given as goal
+use Rattle.categ_combine.proofs.cover.take_intersections.Given as goal
 
 abbrev pub invariant-loop-i : goal.invariant-loop-i
 invariant-loop-i l =

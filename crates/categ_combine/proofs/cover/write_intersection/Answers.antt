@@ -4,8 +4,8 @@ use Rattle.edit_line.specs.Shapes.{Domain, whole_sets}
 use Rattle.edit_line.specs.Combinations.{in_both}
 use Rattle.edit_line.proofs.SetLaws.{AreSets-length}
 use Rattle.categ_combine.proofs.SpotLaws.{common-sets, common-within}
-use Rattle.categ_combine.proofs.cover.write_joined.Goals as goal
-use Rattle.categ_combine.proofs.cover.write_joined.Goals.{After-narrow}
+use Rattle.categ_combine.proofs.cover.write_intersection.Goals as goal
+use Rattle.categ_combine.proofs.cover.write_intersection.Goals.{After-narrow}
 
 pub narrow-requires : goal.narrow-requires
 narrow-requires c =
