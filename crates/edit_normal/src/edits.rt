@@ -17,14 +17,14 @@ pub fn rule_edits(alloc: Global, survey: &Survey) -> Result<Edits, OutOfMemory>
     ensures same { IfOk result (λ edits. SayTheRules survey.now edits) }
 {
     let _rules = survey.rules(); // read for what it says: they are in form, and at most 500
-    let lines = placed(alloc, normal_lines(alloc, survey)?)?;
+    let lines = number_lines(alloc, normal_lines(alloc, survey)?)?;
     let edits = Edits::new(alloc, survey, lines)?;
     Ok(edits)
 }
 
 // The lines without the numbers of their rules, each numbered by its place, from 0. They are at most 1000:
 // two for each of 500 rules.
-fn placed(alloc: Global, rule_lines: Vec<RuleLine>) -> Result<Vec<(u32, Line)>, OutOfMemory>
+fn number_lines(alloc: Global, rule_lines: Vec<RuleLine>) -> Result<Vec<(u32, Line)>, OutOfMemory>
     requires { length rule_lines.items ≤ 1000 }
     ensures { IfOk result (λ lines. lines.items ≡ placed_from 0 (map (λ l. l.line) rule_lines.items)) }
 {

@@ -60,7 +60,7 @@ pub(crate) fn side_line(
     let negative = side.is_negative();
     let sets = Vec::from_slice(alloc, sets)?;
     let factors = factors_of(alloc, fields.numbers(), linear, negative)?;
-    let constant = signed(linear.constant, negative);
+    let constant = with_sign(linear.constant, negative);
     Ok(Line::divided(fields.shape(), sets, factors, constant, side.relation()))
 }
 
@@ -89,14 +89,14 @@ fn factor_at(linear: &Linear, field: u32, negative: bool) -> i128
 {
     for term in linear.terms.as_slice() {
         if term.field == field {
-            return signed(term.factor, negative);
+            return with_sign(term.factor, negative);
         }
     }
     0
 }
 
 // The number, or its negative where `negative` is true, in 128 bits, where it always fits.
-fn signed(number: i64, negative: bool) -> i128
+fn with_sign(number: i64, negative: bool) -> i128
     ensures value { result ≡ signed negative number }
     ensures in_range { InRange result }
 {

@@ -7,8 +7,8 @@ use Rattle.edit_normal.specs.declared.rule_line.RuleLine.{RuleLine}
 use Rattle.edit_normal.proofs.RuleEditLaws.{edits-mean, placed-edits}
 use Rattle.edit_normal.proofs.edits.rule_edits.Goals as goal
 
-pub placed-requires : goal.placed-requires
-placed-requires c = omega (arith, c.in_ok-normal_lines.ensures.most, c.rules-rules.ensures.well_formed.few_rules)
+pub number_lines-requires : goal.number_lines-requires
+number_lines-requires c = omega (arith, c.in_ok-normal_lines.ensures.most, c.rules-rules.ensures.well_formed.few_rules)
 
 pub new-requires : goal.new-requires
 new-requires c =

@@ -1,7 +1,7 @@
 use Rattle.std.proofs.Common.{◌≡◌, length, map}
 use Rattle.edit_normal.specs.RuleEdits.{placed_from}
 use Rattle.edit_normal.specs.declared.rule_line.RuleLine.{RuleLine}
-use Rattle.edit_normal.proofs.edits.placed.Given as goal
+use Rattle.edit_normal.proofs.edits.number_lines.Given as goal
 
 abbrev pub invariant-loop-rule_line : goal.invariant-loop-rule_line
 invariant-loop-rule_line l =

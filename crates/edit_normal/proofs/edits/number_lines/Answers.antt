@@ -4,7 +4,7 @@ use Rattle.std.proofs.lemmas.Iterator.Consumers.{YieldsList-end, YieldsList-turn
 use Rattle.edit_normal.specs.RuleEdits.{placed_from}
 use Rattle.edit_normal.specs.declared.rule_line.RuleLine.{RuleLine}
 use Rattle.edit_normal.proofs.RuleEditLaws.{placed-turn}
-use Rattle.edit_normal.proofs.edits.placed.Goals as goal
+use Rattle.edit_normal.proofs.edits.number_lines.Goals as goal
 
 pub overflow_add-number : goal.overflow_add-number
 overflow_add-number c =
