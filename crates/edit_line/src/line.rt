@@ -159,7 +159,7 @@ impl Line {
                     self.sets.copy_from_slice(s.sets());
                     narrow(&mut self.sets, t.sets());
                     self.constant = constant;
-                    self.relation = s.relation().joined(t.relation());
+                    self.relation = s.relation().sum_relation(t.relation());
                     None
                 }
             },

@@ -53,7 +53,7 @@ fn product(a: i128, b: i128) -> Option<i128>
         return Some(0);
     }
     if a == 1 {
-        return within(b);
+        return checked_number(b);
     }
     product_of(a, b)
 }
@@ -81,7 +81,7 @@ fn checked_product(a: i128, b: i128) -> Option<i128>
 }
 
 // The number, or None where it is out of range, which of all numbers of 128 bits only -2^127 is.
-fn within(number: i128) -> Option<i128>
+fn checked_number(number: i128) -> Option<i128>
     ensures { result ≡ (if in_range number then Some number else None) }
 {
     match number {

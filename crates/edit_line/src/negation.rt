@@ -29,7 +29,7 @@ impl Line {
         let wholes = self.shape().whole_sets(alloc)?;
         let sets = self.sets();
         let mut negation = Vec::new(alloc);
-        negation.push(contrary(alloc, self, &wholes)?)?;
+        negation.push(contrary_line(alloc, self, &wholes)?)?;
         for (place, set) in sets.iter().enumerate() {
             push_never(alloc, &mut negation, self, &wholes, place, *set)?;
         }
@@ -39,7 +39,7 @@ impl Line {
 
 // The line, for all codes, that the negative of the given line's sum is above 0. It is only at least 0
 // where the given line asks for a sum above 0. `wholes` are the sets of all codes.
-fn contrary(alloc: Global, line: &Line, wholes: &[u64]) -> Result<Line, OutOfMemory>
+fn contrary_line(alloc: Global, line: &Line, wholes: &[u64]) -> Result<Line, OutOfMemory>
     requires { wholes.now ≡ whole_sets line.now.shape }
     ensures { IfOk result (λ other. other ≡ contrary line.now) }
 {
@@ -97,14 +97,14 @@ fn push_never(
     if set != whole {
         let mut sets = Vec::from_slice(alloc, wholes)?;
         sets[place] = whole ^ set;
-        negation.push(never(alloc, line, sets)?)?;
+        negation.push(never_line(alloc, line, sets)?)?;
     }
     Ok(())
 }
 
 // The line that says that the codes are never in all of `sets`: where they are, it asks that -1 is at
 // least 0. It is over the shape of `line`.
-fn never(alloc: Global, line: &Line, sets: Vec<u64>) -> Result<Line, OutOfMemory>
+fn never_line(alloc: Global, line: &Line, sets: Vec<u64>) -> Result<Line, OutOfMemory>
     requires { AreSets sets.items (whole_sets line.now.shape) }
     ensures { IfOk result (λ other. other ≡ never line.now.shape sets.items) }
 {

@@ -60,7 +60,7 @@ impl Relation {
 
     /// The relation of the sum of two lines. It asks for 0 where both do, for more than 0 where one of
     /// them does, and else for at least 0. No memory.
-    pub(crate) fn joined(self, other: Relation) -> Relation
+    pub(crate) fn sum_relation(self, other: Relation) -> Relation
         ensures { result ≡ joined self other }
     {
         match self {

@@ -12,7 +12,7 @@ index_mut-requires c =
     c.sets-fit.ensures.fit c.requires.wholes c.requires.place in
     omega (arith, below, c.in_ok-sets.ensures.len)
 
-pub never-requires : goal.never-requires
-never-requires c =
+pub never_line-requires : goal.never_line-requires
+never_line-requires c =
     others-among c.args.line.now.shape c.args.line.now.sets c.args.wholes.now c.in_ok-sets.sets.items c.args.place c.args.set c.sets-fit.ensures.fit
     c.requires.wholes c.in_ok-sets.ensures.items c.requires.place c.requires.set c.if-set-whole.true

@@ -85,8 +85,8 @@ returns-in-Some-sum_of_products-clause-sum c = λ _.
     let sets_are = c.narrow.ensures
     ∙ (λ i. in_both ((c.copy_from_slice.ensures.items ∙ c.sets.ensures.sets) i) (c.sets-in-Some-sum_of_products.ensures.sets i)) in
     let factors_are = told.sums refl ∙ (λ i. combined c.args.m c.args.n (c.factors.ensures.factors i) (c.factors-2.ensures.factors i)) in
-    let relation_is = c.joined-self-inside.ensures ∙ (λ i. joined (c.relation.ensures i) (c.relation-in-Some-sum_of_products.ensures i)) in
-    sum-is (domains c.self.inside.shape) c.args.m c.args.n _ s t c.narrow.new.sets.items c.write_sums.new.sums.items c.joined-self-inside.result
+    let relation_is = c.sum_relation-self-inside.ensures ∙ (λ i. joined (c.relation.ensures i) (c.relation-in-Some-sum_of_products.ensures i)) in
+    sum-is (domains c.self.inside.shape) c.args.m c.args.n _ s t c.narrow.new.sets.items c.write_sums.new.sums.items c.sum_relation-self-inside.result
     (c.requires.s_over ∙ shape) sets_are factors_are
     (to_z-of_z w128 c.in-Some-sum_of_products.constant z_fits ∙ is.1) relation_is
 
@@ -108,7 +108,7 @@ invariant_of-self-in-Some-sum_of_products c =
     let shape = sym (ap (λ (l : LineParts). l.shape) c.self.view_is) in
     let sets_are = c.narrow.ensures
     ∙ (λ i. in_both ((c.copy_from_slice.ensures.items ∙ c.sets.ensures.sets) i) (c.sets-in-Some-sum_of_products.ensures.sets i)) in
-    let relation_is = c.joined-self-inside.ensures ∙ (λ i. joined (c.relation.ensures i) (c.relation-in-Some-sum_of_products.ensures i)) in
+    let relation_is = c.sum_relation-self-inside.ensures ∙ (λ i. joined (c.relation.ensures i) (c.relation-in-Some-sum_of_products.ensures i)) in
     simp to_z-of_z (sum-line (domains c.self.inside.shape) c.in-Some-sum_of_products.constant s t c.narrow.new.sets.items c.write_sums.new.sums.items
-    c.joined-self-inside.result (c.requires.s_over ∙ shape) (c.requires.t_over ∙ shape) sets_are relation_is c.sets.ensures.line
+    c.sum_relation-self-inside.result (c.requires.s_over ∙ shape) (c.requires.t_over ∙ shape) sets_are relation_is c.sets.ensures.line
     c.sets-in-Some-sum_of_products.ensures.line c.requires.meet (told.count ∙ c.self.invariant.factors) told.in_range is.2)

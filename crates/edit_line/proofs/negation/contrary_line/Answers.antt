@@ -4,7 +4,7 @@ use lib.IntN.{neg_ℤ}
 use mir.Syntax.{w128}
 use Rattle.edit_line.specs.Negations.{contrary_relation}
 use Rattle.edit_line.proofs.NegationLines.{contrary-parts}
-use Rattle.edit_line.proofs.negation.contrary.Goals as goal
+use Rattle.edit_line.proofs.negation.contrary_line.Goals as goal
 
 pub over-requires : goal.over-requires
 over-requires c =

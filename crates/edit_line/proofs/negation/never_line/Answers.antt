@@ -3,7 +3,7 @@ use Rattle.edit_line.specs.Lines.{parts_of}
 use Rattle.edit_line.specs.declared.relation.Relation.TheVariants.{AtLeast}
 use Rattle.edit_line.specs.Shapes.{Domain, number_fields}
 use Rattle.edit_line.proofs.NegationLines.{zeros-are}
-use Rattle.edit_line.proofs.negation.never.Goals as goal
+use Rattle.edit_line.proofs.negation.never_line.Goals as goal
 
 pub returns : goal.returns
 returns c =
