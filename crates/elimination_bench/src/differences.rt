@@ -70,14 +70,14 @@ impl Differences {
         let upper = upper_field(numbers, place);
         let factors = difference(alloc, numbers, lower, upper)?;
         let mut sets = Vec::new(alloc);
-        sets.push(self.set(draw))?;
+        sets.push(self.code_set(draw))?;
         let constant = i128::from(draw % 1000);
         Ok(Line::over(shape, sets, factors, constant, Relation::AtLeast))
     }
 
     // The set of codes, as bits, of a line for which this number is drawn. It is whole (255) for `Plain`,
     // and never empty.
-    fn set(self, draw: u32) -> u64
+    fn code_set(self, draw: u32) -> u64
         ensures { result ≡ set_of self draw }
     {
         match self {

@@ -25,13 +25,13 @@ const USAGE: &str = "usage: elimination_bench fold|pairs FIELDS [codes] | steps 
 // Prints what the words ask for, or why nothing is told, and ends with the status that says so.
 fn main(rt: HostRuntime) -> ExitCode {
     let alloc = rt.alloc();
-    let told = told(&rt, alloc);
+    let told = asked_text(&rt, alloc);
     leave(alloc, &mut OutPrinter::new(rt), USAGE, told)
 }
 
 // What is printed of the words after the program's name, or why nothing is. The faults are those of
 // `text_of`.
-fn told<R: std::rt::Env + AllocGlobal>(rt: &R, alloc: Global) -> Result<String, Fault> {
+fn asked_text<R: std::rt::Env + AllocGlobal>(rt: &R, alloc: Global) -> Result<String, Fault> {
     let words = words_of(alloc, env::args(rt))?;
     text_of(alloc, &words)
 }

@@ -31,13 +31,13 @@ pub fn task_of(words: &[String]) -> Option<Task>
     ensures served { IfSome result IsServed }
 {
     match words {
-        [verb, count] if verb.as_str() == "steps" => listed(Listing::Given, count.as_str()),
+        [verb, count] if verb.as_str() == "steps" => steps_task(Listing::Given, count.as_str()),
         [verb, count, kind] if verb.as_str() == "steps" && kind.as_str() == "sums" => {
-            listed(Listing::Sums, count.as_str())
+            steps_task(Listing::Sums, count.as_str())
         }
-        [verb, count] => served(verb.as_str(), Differences::Plain, count.as_str()),
+        [verb, count] => elimination_task(verb.as_str(), Differences::Plain, count.as_str()),
         [verb, count, kind] if kind.as_str() == "codes" => {
-            served(verb.as_str(), Differences::Coded, count.as_str())
+            elimination_task(verb.as_str(), Differences::Coded, count.as_str())
         }
         _ => None,
     }
@@ -45,7 +45,7 @@ pub fn task_of(words: &[String]) -> Option<Task>
 
 // The task of the verb over these generated edits. None where the verb is another, the count is no number
 // or more than there are fields, or `pairs` is asked of no field.
-fn served(verb: &str, system: Differences, count: &str) -> Option<Task>
+fn elimination_task(verb: &str, system: Differences, count: &str) -> Option<Task>
     ensures exact { result ≡ served verb.now system (number_in count.now 0 (numbers_of system)) }
     ensures served { IfSome result IsServed }
 {
@@ -59,7 +59,7 @@ fn served(verb: &str, system: Differences, count: &str) -> Option<Task>
 
 // The check of a list of as many steps as the text writes. None where it writes no number, or more than
 // `MOST_STEPS`.
-fn listed(listing: Listing, count: &str) -> Option<Task>
+fn steps_task(listing: Listing, count: &str) -> Option<Task>
     ensures exact { result ≡ listed listing (number_in count.now 0 (10 ^ 7)) }
     ensures served { IfSome result IsServed }
 {
