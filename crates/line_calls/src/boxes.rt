@@ -12,7 +12,7 @@ ghost use Rattle.categ_combine.specs.BoxLists.{AreBoxesOver, HaveCode, HaveCodeF
 use crate::fault::CallFault;
 use crate::numbers::{from_one, number_in, place_in};
 use crate::rules::{code_of, field_of};
-use crate::texts::{Texts, alone, name_of};
+use crate::texts::{Texts, name_of, only_line};
 use categ_combine::{
     BoxFault, BoxFrom, BoxOrigin, Covered, boxes_of, cat_step, fix, fix_apart, step_apart,
 };
@@ -37,7 +37,7 @@ struct Boxes {
 /// change has three words. By `fix FIELD CODE` the field keeps the code. By `cover FIELD MOST` the field
 /// is eliminated, looking at `MOST` pairs at most. By `pick I J` only the boxes of these numbers stay,
 /// which may be one box twice. Where a number leaves the range, the line and the field are told. The
-/// faults are those of `changed`.
+/// faults are those of `change_boxes`.
 pub fn boxes_told(
     alloc: Global,
     survey: &Survey,
@@ -60,7 +60,7 @@ pub fn boxes_told(
             let number = from_one(line);
             let mut text = format!(in alloc; "overflow in line {number} at ")?.into_bytes();
             text.extend_from_slice(name_of(survey, field)?)?;
-            alone(alloc, text)
+            only_line(alloc, text)
         }
         Err(BoxFault::OutOfMemory) => Err(CallFault::OutOfMemory),
     }
@@ -93,7 +93,7 @@ fn line_over(alloc: Global, shape: Shape, line: &Line) -> Result<Line, CallFault
 }
 
 // What is told of the boxes `first` after the changes that the words ask for, three words each. It is
-// `passed` where a cover would look at too many pairs. The faults are those of `changed`.
+// `passed` where a cover would look at too many pairs. The faults are those of `change_boxes`.
 fn changed_told(
     alloc: Global,
     survey: &Survey,
@@ -104,18 +104,18 @@ fn changed_told(
 {
     let mut boxes = first;
     for change in words.chunks(3) {
-        let Some(next) = changed(alloc, survey, &boxes, change)? else {
-            return alone(alloc, b"passed".to_vec(alloc)?);
+        let Some(next) = change_boxes(alloc, survey, &boxes, change)? else {
+            return only_line(alloc, b"passed".to_vec(alloc)?);
         };
         boxes = next;
     }
-    told(alloc, survey, &boxes)
+    box_texts(alloc, survey, &boxes)
 }
 
 // The boxes after the change of these three words, or None where it is a cover that would look at too
 // many pairs. `CallFault::Words` where the words are no change, `Field` where there is no such field or
 // code, and `Number` where there is no such box.
-fn changed(
+fn change_boxes(
     alloc: Global,
     survey: &Survey,
     boxes: &Boxes,
@@ -125,9 +125,9 @@ fn changed(
     ensures { IfOk result (λ next. IfSome next (λ b. b.are_apart ≡ true → LieApart b.list.items)) }
 {
     match words {
-        ["fix", field, code] => fixed(alloc, survey, boxes, field_of(survey, field)?, code),
+        ["fix", field, code] => fix_change(alloc, survey, boxes, field_of(survey, field)?, code),
         ["cover", field, most] => {
-            covered(
+            cover_change(
                 alloc,
                 survey,
                 boxes,
@@ -135,14 +135,14 @@ fn changed(
                 number_in(most)?,
             )
         }
-        ["pick", first, second] => picked(alloc, boxes, place_in(first)?, place_in(second)?),
+        ["pick", first, second] => pick_change(alloc, boxes, place_in(first)?, place_in(second)?),
         _ => Err(CallFault::Words),
     }
 }
 
 // The boxes at the places `first` and `second`, from 0; never None. `CallFault::Number` where there is
 // no such box. It is not known that the two lie apart, so the slower calls treat them next.
-fn picked(
+fn pick_change(
     alloc: Global,
     boxes: &Boxes,
     first: usize,
@@ -165,7 +165,7 @@ fn picked(
 
 // The boxes that are left when the field keeps the code of this name; never None. They lie apart,
 // whether the boxes before did or not. `CallFault::Field` where the field has no such code.
-fn fixed(
+fn fix_change(
     alloc: Global,
     survey: &Survey,
     boxes: &Boxes,
@@ -184,7 +184,7 @@ fn fixed(
         return Err(CallFault::Field);
     }
     Ok(Some(Boxes {
-        list: left(alloc, boxes, field, code)?,
+        list: fix_boxes(alloc, boxes, field, code)?,
         are_apart: true,
         pairs: None,
     }))
@@ -192,7 +192,12 @@ fn fixed(
 
 // What the code of the field leaves of the boxes, by the faster call where it is known that they lie
 // apart. `HaveCode` says that the boxes are over fields of which this one has the code.
-fn left(alloc: Global, boxes: &Boxes, field: u32, code: u8) -> Result<Vec<BoxFrom>, OutOfMemory>
+fn fix_boxes(
+    alloc: Global,
+    boxes: &Boxes,
+    field: u32,
+    code: u8,
+) -> Result<Vec<BoxFrom>, OutOfMemory>
     requires code { HaveCode boxes.now.list.items field code }
     requires apart { boxes.now.are_apart ≡ true → LieApart boxes.now.list.items }
     ensures { IfOk result (λ left. LieApart left.items) }
@@ -206,7 +211,7 @@ fn left(alloc: Global, boxes: &Boxes, field: u32, code: u8) -> Result<Vec<BoxFro
 
 // The boxes when the field is eliminated, or None where that would look at more than `most` pairs.
 // `CallFault::Field` where the field is numerical, since it has no code 0.
-fn covered(
+fn cover_change(
     alloc: Global,
     survey: &Survey,
     boxes: &Boxes,
@@ -220,7 +225,7 @@ fn covered(
     if !has_code(&shape, field, 0) || !are_over(shape, &boxes.list) {
         return Err(CallFault::Field);
     }
-    match without(alloc, boxes, field, most)? {
+    match cover_boxes(alloc, boxes, field, most)? {
         Covered::Done { boxes, pairs } => Ok(Some(Boxes {
             list: boxes.into_vec(),
             are_apart: false,
@@ -233,7 +238,7 @@ fn covered(
 // What the elimination of the field from the boxes gives, by the faster call where it is known that they
 // lie apart. `Covered::Passed` where it would look at more than `most` pairs. `HaveCodeField` says that
 // the boxes are over fields of which this one is categorical.
-fn without(alloc: Global, boxes: &Boxes, field: u32, most: u64) -> Result<Covered, OutOfMemory>
+fn cover_boxes(alloc: Global, boxes: &Boxes, field: u32, most: u64) -> Result<Covered, OutOfMemory>
     requires field { HaveCodeField boxes.now.list.items field }
     requires apart { boxes.now.are_apart ≡ true → LieApart boxes.now.list.items }
 {
@@ -265,7 +270,7 @@ fn are_over(shape: Shape, boxes: &[BoxFrom]) -> bool
 
 // The boxes as texts, each behind where it comes from. Then comes the number of pairs, where the last
 // change was an elimination.
-fn told(alloc: Global, survey: &Survey, boxes: &Boxes) -> Result<Texts, CallFault> {
+fn box_texts(alloc: Global, survey: &Survey, boxes: &Boxes) -> Result<Texts, CallFault> {
     let mut texts = Vec::new(alloc);
     for each in &boxes.list {
         let mut text = origin_text(alloc, &each.origin)?.into_bytes();

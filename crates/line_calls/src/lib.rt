@@ -21,4 +21,4 @@ pub use pruning::{dropped_told, prune_told};
 pub use records::{row_of, row_text};
 pub use rules::{bytes_in, edits_of, survey_in};
 pub use systems::{pairs_told, system_told};
-pub use texts::{Texts, alone, name_of, told_line};
+pub use texts::{Texts, name_of, only_line, told_line};

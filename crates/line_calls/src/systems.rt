@@ -8,7 +8,7 @@ ghost use Rattle.linear_elim.specs.Systems.{AreNumerical};
 use crate::fault::CallFault;
 use crate::numbers::from_one;
 use crate::rules::{edits_of, field_of};
-use crate::texts::{Texts, alone, name_of, push_place, told_line};
+use crate::texts::{Texts, name_of, only_line, push_place, told_line};
 use edit_line::{Derived, Origin, Place};
 use edit_model::{FieldSet, Survey};
 use foundation::Steps;
@@ -47,7 +47,7 @@ pub fn pairs_told(
     match system_of::<Brand>(alloc, survey, fields, Blank::new(1))? {
         Ok(held) => {
             let count = pairs(held.system().lines(), field);
-            alone(alloc, format!(in alloc; "{count} pairs")?.into_bytes())
+            only_line(alloc, format!(in alloc; "{count} pairs")?.into_bytes())
         }
         Err(_) => Err(CallFault::Number),
     }
@@ -157,5 +157,5 @@ fn overflow_told(
     let second = from_one(second);
     text.extend_from_slice(format!(in alloc; " lines {first} {second}")?.as_bytes())?;
     push_place(&mut text, survey, place)?;
-    alone(alloc, text)
+    only_line(alloc, text)
 }

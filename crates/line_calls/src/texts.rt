@@ -47,7 +47,7 @@ pub fn push_place(text: &mut Vec<u8>, survey: &Survey, place: Place) -> Result<(
 }
 
 /// The text as the only line that is told. Want of memory is the only fault.
-pub fn alone(alloc: Global, text: Vec<u8>) -> Result<Texts, CallFault> {
+pub fn only_line(alloc: Global, text: Vec<u8>) -> Result<Texts, CallFault> {
     let mut texts = Vec::new(alloc);
     texts.push(text)?;
     Ok(texts)

@@ -8,7 +8,7 @@ use bound_cert::{CertFault, Path, check_cert};
 use derivation::{Proved, StepsFault, check_steps};
 use edit_model::{Row, Survey};
 use edit_normal::lines_of_rules;
-use line_calls::{CallFault, Texts, alone, box_text, from_one, place_in, told_line};
+use line_calls::{CallFault, Texts, box_text, from_one, only_line, place_in, told_line};
 use std::alloc::Global;
 
 /// What the steps of a file prove of a record, or the number, from 1, of the first that is not valid.
@@ -34,10 +34,10 @@ pub fn steps_told(
     }
     let kept = path.kept_set(survey, row);
     match check_steps(alloc, survey, &given, &usable, row, kept, steps.as_slice()) {
-        Ok(proved) => alone(alloc, proved_text(alloc, survey, &proved)?),
+        Ok(proved) => only_line(alloc, proved_text(alloc, survey, &proved)?),
         Err(StepsFault::Bad { place }) => {
             let number = from_one(place);
-            alone(alloc, format!(in alloc; "no step {number}")?.into_bytes())
+            only_line(alloc, format!(in alloc; "no step {number}")?.into_bytes())
         }
         Err(StepsFault::OutOfMemory) => Err(CallFault::OutOfMemory),
     }
@@ -125,5 +125,5 @@ pub fn tree_told(alloc: Global, survey: &Survey, row: &Row, tree: &[u8]) -> Resu
         }
         Err(CertFault::OutOfMemory) => return Err(CallFault::OutOfMemory),
     };
-    alone(alloc, text.into_bytes())
+    only_line(alloc, text.into_bytes())
 }

@@ -17,7 +17,7 @@ use edit_line::Edits;
 use edit_model::{FieldSet, Row, Survey};
 use edit_paths::case_known;
 use foundation::Steps;
-use line_calls::{CallFault, Texts, alone, edits_of, from_one, name_of, row_of, row_text};
+use line_calls::{CallFault, Texts, edits_of, from_one, name_of, only_line, row_of, row_text};
 use linear_elim::Recompute;
 use std::alloc::Global;
 use std::marker::Brand;
@@ -41,7 +41,7 @@ pub fn values_told(
 {
     match gift_of(alloc, survey, row, donor)? {
         Ok(gift) => gift_told(alloc, survey, &gift),
-        Err(fault) => alone(alloc, fault_text(alloc, survey, fault)?),
+        Err(fault) => only_line(alloc, fault_text(alloc, survey, fault)?),
     }
 }
 
@@ -57,7 +57,7 @@ fn gift_told(alloc: Global, survey: &Survey, gift: &Gift) -> Result<Texts, CallF
             How::Nearest => b" nearest",
         })?;
     }
-    alone(alloc, text)
+    only_line(alloc, text)
 }
 
 // Where a number leaves the range in the giving of values. It is at a field in a line that bounds it, or
@@ -118,7 +118,7 @@ fn gift_of(
 {
     let edits = edits_of(alloc, survey)?;
     let changed = changed_in(alloc, survey, &edits, row)?;
-    Ok(given::<Brand>(alloc, survey, &edits, row, changed, donor, Blank::new(1)))
+    Ok(counted_gift::<Brand>(alloc, survey, &edits, row, changed, donor, Blank::new(1)))
 }
 
 // The fields that a change of the record changes, as the search finds them by these edits, which hold
@@ -146,7 +146,7 @@ fn changed_in(
 // What the record is given in the place of these fields, from the donor, if there is one. The fault says
 // where a number leaves the range. `blank` is one of the ledger `L` (`name`, `parts`), and starts a
 // counter of steps for this call, which nobody reads.
-fn given<L: Ledger>(
+fn counted_gift<L: Ledger>(
     alloc: Global,
     survey: &Survey,
     edits: &Arc<Edits>,

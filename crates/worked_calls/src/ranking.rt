@@ -15,7 +15,7 @@ use donor_measure::{Measure, field_distance};
 use donor_search::{Deck, RowMarks, ranking};
 use edit_model::{Row, Survey, Value};
 use foundation::Steps;
-use line_calls::{CallFault, Texts, alone, from_one};
+use line_calls::{CallFault, Texts, from_one, only_line};
 use proof_calls::path_of;
 use record_text::{Sheet, read_records};
 use std::alloc::Global;
@@ -63,7 +63,7 @@ pub fn rank_told(
         let number = from_one(u64::from(*donor));
         text.push_str(format!(in alloc; " {number}")?.as_str())?;
     }
-    alone(alloc, text.into_bytes())
+    only_line(alloc, text.into_bytes())
 }
 
 /// `at most MOST` where two values were measured at most `most` times to find the nearest donors, and
@@ -81,7 +81,7 @@ pub fn measured_told(
     } else {
         format!(in alloc; "{measured}")?
     };
-    alone(alloc, text.into_bytes())
+    only_line(alloc, text.into_bytes())
 }
 
 // What is found of the donors of the record that is asked for, in the record file of these bytes.

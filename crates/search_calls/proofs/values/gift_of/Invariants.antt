@@ -1,4 +1,4 @@
 use Rattle.search_calls.proofs.values.gift_of.Given as goal
 
-abbrev pub ghosts-given : goal.ghosts-given
-ghosts-given a = record { name = a.blank.name; parts = a.blank.parts }
+abbrev pub ghosts-counted_gift : goal.ghosts-counted_gift
+ghosts-counted_gift a = record { name = a.blank.name; parts = a.blank.parts }
