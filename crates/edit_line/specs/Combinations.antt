@@ -30,7 +30,7 @@ joined AtLeast Above = Above
 joined AtLeast AtLeast = AtLeast
 joined AtLeast Equal = AtLeast
 
--- m times s and n times t, where both sets meet
+-- the line that is m times s and n times t, asked where the codes are in the sets of both
 abbrev pub sum_of : ℤ → ℤ → LineParts → LineParts → LineParts
 sum_of m n s t = parts_of s.shape (in_both s.sets t.sets) (combined m n s.factors t.factors)
     (m *ℤ s.constant +ℤ n *ℤ t.constant) (joined s.relation t.relation)

@@ -35,7 +35,7 @@ SayTheRules survey edits = (p : Point)
 abbrev pub base_lines : List (ℕ × LineParts) → List Derived
 base_lines edits = map (λ (e : ℕ × LineParts). record { line = e.1; origin = Base e.0 }) edits
 
--- what is kept of all edits: they are edits, and beside them stand their reduced lines
+-- the lines are edits over these fields, and the list beside them is what reduction leaves of them
 pub record IsReducedOf (shape : List Domain) (lines : List (ℕ × LineParts)) (reduced : List Derived) : Type 0 where
   pub edits : AreEdits shape lines
   pub lines_are : reduced ≡ reduce_derived (base_lines lines)

@@ -47,7 +47,7 @@ whole n = record { numerator = n; denominator = pos 1 }
 abbrev pub sum_at : LineParts → List Value → Result Ratio ℕ
 sum_at line row = sum_from (number_fields line.shape) line.factors row (whole line.constant)
 
--- whether a sum is not enough
+-- whether a sum is not as the relation asks; where there is no sum, its overflow stays
 abbrev pub fails_by : Relation → Result Ratio ℕ → Result Bool ℕ
 fails_by relation answer = answer >>= (λ sum. Ok (not (is_enough relation sum.numerator)))
 

@@ -63,8 +63,9 @@ impl CodeBox {
         self.sets.as_slice()
     }
 
-    /// Whether each of these sets lies inside the box's set for the same field. A look at the probe place
-    /// tells most that do not. No memory.
+    /// Whether each of these sets lies inside the box's set for the same field: then the box forbids
+    /// all that they would. The probe place is looked at first, which tells most that do not. No
+    /// memory.
     pub fn has_inside(&self, sets: &[u64]) -> bool
         ensures { result ≡ are_subsets sets.now self.now.sets }
     {

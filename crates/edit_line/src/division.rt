@@ -65,7 +65,7 @@ fn long_quotient(number: i128, divisor: i128) -> i128
     number / divisor
 }
 
-// The number of this size, with the sign of `other`.
+// The number of this size, below 0 where `other` is, and else not.
 fn with_sign(other: i128, size: u64) -> i128
     ensures { result ≡ (if int_lt other (pos 0) then neg_ℤ (pos size) else pos size) }
 {
@@ -106,7 +106,7 @@ fn common_divisor(a: i128, b: i128) -> i128
     }
 }
 
-// The number without its sign, or None where that passes 64 bits.
+// The number without its sign, as a number of 64 bits; None where it has no room there.
 fn word_of(number: i128) -> Option<u64>
     ensures { IfSome result (λ word. word ≡ unsigned_abs number) }
 {

@@ -18,7 +18,7 @@ impl Edits {
     }
 }
 
-// Whether the fields and the lines of both edits are equal.
+// What `Edits::same` answers: whether the fields and the numbered lines of both are equal.
 fn same_contents(a: &Edits, b: &Edits) -> bool
     ensures { result ≡ same_edits a.now b.now }
 {
@@ -36,7 +36,7 @@ impl Line {
     }
 }
 
-// Whether all parts of two lines are equal.
+// What `Line::same` answers: whether all parts of two lines are equal.
 fn same_parts(a: &Line, b: &Line) -> bool
     ensures { result ≡ same_line a.now b.now }
 {

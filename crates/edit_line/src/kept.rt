@@ -1,8 +1,9 @@
 //! A list of lines that stays reduced as lines are taken in: elimination puts each line that it makes in
 //! here.
 //!
-//! In contracts, `with_derived` has the kept lines after one more is taken in. `NoneOver` says that no
-//! line before a place subsumes the given one, and `NoneUnder` that the given one subsumes none of them.
+//! In contracts, `with_derived` has the kept lines after one more is taken in. `NoneOver` says that lines
+//! before a place need not be asked whether they subsume the given one. `NoneUnder` says that the given
+//! one subsumes none of them.
 //! `left_from` has the lines before a place, and of the others those that the given one does not subsume.
 ghost use Rattle.std.specs.Prelude.{◌≡◌, ◌<◌, ◌-◌, ◌++◌, [], ◌∷◌, length, not, take, OnErr, OnOk};
 ghost use Rattle.std.specs.List.{filter, list_any};
@@ -128,8 +129,8 @@ impl Kept {
     }
 }
 
-// The place of the first line that, as far as keys tell, may subsume the given line or be subsumed by it.
-// Where there is none it is the number of the lines.
+// The place of the first line that, by its key, may subsume the given line or be subsumed by it. Where
+// there is none it is the number of the lines. The lines before it need not be compared.
 fn first_agreeing(lines: &[Derived], keys: &[u64], line: &Line, key: u64) -> usize
     requires keyed { keys.now ≡ keys_of lines.now }
     requires key { key ≡ key_of line.now.factors }

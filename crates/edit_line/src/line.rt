@@ -83,7 +83,7 @@ impl Line {
     }
 
     /// The line of these parts, over fields of this shape, with its numbers divided by their greatest
-    /// common divisor. No memory.
+    /// common divisor. The parts are as the type asks. No memory.
     pub fn divided(
         shape: Shape,
         sets: Vec<u64>,
@@ -139,10 +139,11 @@ impl Line {
         self.shape
     }
 
-    /// Makes this line the sum of `m` times `s` and `n` times `t`, and answers None. Or it answers the
-    /// first place, among the factors and then the constant, at which a number on the way leaves the
-    /// range. Then the numbers that stand here mean nothing. All three are over one survey's fields, and
-    /// the sets of `s` and `t` meet. No memory.
+    /// Overwrites this line with the sum of `m` times `s` and `n` times `t`, and answers None. A set
+    /// then has the codes that are in both lines' sets. Or the answer is the first place at which a
+    /// product or a sum leaves the range. Places are those of the factors, from 0, and the constant
+    /// stands behind them. The numbers of this line then mean nothing. All three are over one survey's
+    /// fields, and the sets of `s` and `t` meet. No memory.
     pub fn write_sum(&mut self, m: i128, s: &Line, n: i128, t: &Line) -> Option<usize>
         requires s_over { s.now.shape ≡ self.old.shape }
         requires t_over { t.now.shape ≡ self.old.shape }
@@ -179,7 +180,8 @@ impl Line {
         divisor
     }
 
-    /// Divides each number by the positive divisor, toward zero. No memory.
+    /// Divides each number by the positive divisor, rounded toward zero. The sets and the relation
+    /// stay. No memory.
     pub fn divide_by(&mut self, divisor: i128)
         requires { pos 0 <ℤ divisor }
         ensures { self.new ≡ divided_by divisor self.old }
@@ -188,7 +190,7 @@ impl Line {
         self.constant = quotient(self.constant, divisor);
     }
 
-    /// An equal line.
+    /// An equal line, with lists of its own.
     pub fn copy(&self, alloc: Global) -> Result<Line, OutOfMemory>
         ensures { IfOk result (λ line. line ≡ self.now) }
     {

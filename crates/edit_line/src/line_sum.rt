@@ -80,7 +80,8 @@ fn checked_product(a: i128, b: i128) -> Option<i128>
     }
 }
 
-// The number, or None where it is out of range, which of all numbers of 128 bits only -2^127 is.
+// The number, or None where it is out of range. Of all numbers of 128 bits only -2^127 is, since none
+// is its negative.
 fn checked_number(number: i128) -> Option<i128>
     ensures { result ≡ (if in_range number then Some number else None) }
 {

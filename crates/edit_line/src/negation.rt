@@ -37,8 +37,9 @@ impl Line {
     }
 }
 
-// The line, for all codes, that the negative of the given line's sum is above 0. It is only at least 0
-// where the given line asks for a sum above 0. `wholes` are the sets of all codes.
+// The first line of a negation, which speaks of numbers, for all codes: the negative of the given
+// line's sum is above 0. It is only at least 0 where the given line asks for a sum above 0. `wholes`
+// are the sets of all codes.
 fn contrary_line(alloc: Global, line: &Line, wholes: &[u64]) -> Result<Line, OutOfMemory>
     requires { wholes.now ≡ whole_sets line.now.shape }
     ensures { IfOk result (λ other. other ≡ contrary line.now) }
@@ -76,8 +77,9 @@ fn negative(number: i128) -> i128
     -number
 }
 
-// Puts last the line that says that the code of the field at the place is never outside its set. Where the
-// set is whole it puts none. `wholes` are the sets of all codes.
+// Appends the line that says that the code of the field at the place is never outside its set `set`.
+// Where the set is whole it appends none. The place is that among the categorical fields, from 0.
+// `wholes` are the sets of all codes.
 fn push_never(
     alloc: Global,
     negation: &mut Vec<Line>,
@@ -102,8 +104,8 @@ fn push_never(
     Ok(())
 }
 
-// The line that says that the codes are never in all of `sets`: where they are, it asks that -1 is at
-// least 0. It is over the shape of `line`.
+// The line that says that the codes are never in all of `sets`. Where they are, it asks that -1 is at
+// least 0, which never holds. It is over the shape of `line`.
 fn never_line(alloc: Global, line: &Line, sets: Vec<u64>) -> Result<Line, OutOfMemory>
     requires { AreSets sets.items (whole_sets line.now.shape) }
     ensures { IfOk result (λ other. other ≡ never line.now.shape sets.items) }

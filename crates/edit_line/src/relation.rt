@@ -25,7 +25,8 @@ impl Relation {
         matches!(self, Relation::Equal)
     }
 
-    /// Whether the relation holds of a number: it is at least 0, above 0, or 0. No memory.
+    /// Whether a number, such as a line's sum, is as the relation asks: at least 0, above 0, or 0. No
+    /// memory.
     pub(crate) fn is_enough(self, number: i128) -> bool
         ensures { result ≡ is_enough self number }
     {
@@ -36,7 +37,7 @@ impl Relation {
         }
     }
 
-    /// Whether each number of which this relation holds meets the other relation too. No memory.
+    /// Whether the other relation holds of each number of which this one holds. No memory.
     pub(crate) fn implies(self, other: Relation) -> bool
         ensures { result ≡ implies self other }
     {
@@ -58,8 +59,8 @@ impl Relation {
         }
     }
 
-    /// The relation of the sum of two lines. It asks for 0 where both do, for more than 0 where one of
-    /// them does, and else for at least 0. No memory.
+    /// What is asked of the sum of two lines with these relations. It has to be 0 where both lines ask
+    /// for 0, and above 0 where one of them asks for that. Else it has to be at least 0. No memory.
     pub(crate) fn sum_relation(self, other: Relation) -> Relation
         ensures { result ≡ joined self other }
     {
@@ -73,8 +74,9 @@ impl Relation {
         }
     }
 
-    /// What holds of the negative of a sum of which this relation does not hold. An equality has no such
-    /// relation, since the negative may be above or below 0; it stays. No memory.
+    /// The relation that the negative of a number meets exactly where the number does not meet this
+    /// one. `Equal` has none, since the negative may be above or below 0. It stays `Equal`, and no
+    /// equality is negated by it. No memory.
     pub(crate) fn contrary_relation(self) -> Relation
         ensures { result ≡ contrary_relation self }
     {
@@ -85,7 +87,7 @@ impl Relation {
         }
     }
 
-    /// Whether both are the same. No memory.
+    /// Whether both are the same relation. No memory.
     pub(crate) fn same(self, other: Relation) -> bool
         ensures { result ≡ same_relation self other }
     {

@@ -48,8 +48,8 @@ pub fn fails(survey: &Survey, line: &Line, row: &Row) -> Result<bool, LineOverfl
 }
 
 // The constant, and then factor * value at each of the fields whose factor is not 0, in this order.
-// `factors` has one factor for each of `fields`. Overflow names the first field at which a number leaves
-// the range.
+// `factors` has one factor for each of `fields`. Overflow names the first field at which a number
+// leaves the range. A field without a number adds nothing.
 fn sum_over(
     fields: &[u32],
     factors: &[i128],
@@ -70,8 +70,8 @@ fn sum_over(
     Ok(sum)
 }
 
-// The sum with the factor times the record's number at the field, which an overflow names. Where the factor
-// is 0 nothing is added, so nothing can overflow.
+// The sum so far and, added to it, the factor times the record's number at the field. Overflow names
+// this field. Where the factor is 0 nothing is added, so nothing can overflow.
 #[inline(always)]
 fn with_field(sum: Fraction, factor: i128, field: u32, row: &Row) -> Result<Fraction, LineOverflow>
     requires in_range { InRange factor }
@@ -89,7 +89,8 @@ fn with_field(sum: Fraction, factor: i128, field: u32, row: &Row) -> Result<Frac
     }
 }
 
-// The sum with the factor times the value; a value that is no number adds nothing.
+// The sum so far and, added to it, the factor times the value. A value that is no number adds nothing.
+// Overflow where a number leaves the range.
 #[inline(always)]
 fn with_value(sum: Fraction, factor: i128, value: &Value) -> Result<Fraction, Overflow>
     requires { InRange factor }

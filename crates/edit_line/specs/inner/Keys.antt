@@ -28,7 +28,7 @@ may_subsume first second = (first == second) || (first == 0)
 abbrev pub any_over : LineParts → List Derived → Bool
 any_over line lines = list_any (λ (a : Derived). subsumes a.line line) lines
 
--- none of the lines before this place subsumes the line
+-- the lines from this place on tell whether one of all subsumes the line: so it is where none before the place does
 abbrev pub NoneOver : ℕ → LineParts → List Derived → Type 0
 NoneOver place line lines = any_over line (drop place lines) ≡ any_over line lines
 
