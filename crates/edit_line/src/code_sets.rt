@@ -29,8 +29,8 @@ pub fn are_inside(first: &[u64], second: &[u64]) -> bool
     true
 }
 
-/// Whether the first list's set at the place has a code that the second's there has not. It is false where
-/// one of the lists has no set there. No memory.
+/// Whether the first list's set at the place has a code that the second's there has not. Then the first
+/// sets are not all inside the second. False where one of the lists has no set there. No memory.
 pub(crate) fn is_outside_at(first: &[u64], second: &[u64], place: usize) -> bool
     ensures { result ≡ true → are_subsets first.now second.now ≡ false }
 {
@@ -64,7 +64,8 @@ pub fn all_meet(first: &[u64], second: &[u64]) -> bool
     true
 }
 
-/// The codes that are in both lists' sets, field by field.
+/// The codes that are in both lists' sets, field by field. A set may come out empty. Both lists are
+/// over the same fields.
 pub fn meets(alloc: Global, first: &[u64], second: &[u64]) -> Result<Vec<u64>, OutOfMemory>
     requires { length first.now ≡ length second.now }
     ensures { IfOk result (λ sets. sets.items ≡ in_both first.now second.now) }
@@ -74,7 +75,8 @@ pub fn meets(alloc: Global, first: &[u64], second: &[u64]) -> Result<Vec<u64>, O
     Ok(sets)
 }
 
-/// Leaves in the sets only the codes that are also in the others, field by field. No memory.
+/// Leaves in the sets only the codes that are also in the others, field by field. A set may come out
+/// empty. Both lists are over the same fields. No memory.
 pub fn narrow(sets: &mut Vec<u64>, others: &[u64])
     requires { length others.now ≡ length sets.old.items }
     ensures { sets.new.items ≡ in_both sets.old.items others.now }
@@ -112,8 +114,8 @@ pub(crate) fn are_whole(shape: Shape, sets: &[u64]) -> bool
     place >= sets.len()
 }
 
-// The place of the next field's set, or None where the set at this place is not that of all `count` codes.
-// A numerical field, which has 0 codes, has no set, so the place stays.
+// The place of the next field's set, where the set at this place is that of all `count` codes of a
+// field. None where it is not. A numerical field, which has 0 codes, has no set, so the place stays.
 fn next_if_whole(sets: &[u64], place: usize, count: u8) -> Option<usize>
     requires { count ≤ 64 }
     ensures some { IfSome result (λ next. IsWholeUpTo sets.now place count next) }

@@ -98,7 +98,8 @@ impl Kept {
         self.replace_subsumed(Derived { line, origin }, key, first)
     }
 
-    /// Puts the line last, and compares it with none. After a refusal the kept lines are as before.
+    /// Puts the line last, and compares it with none: for a line that is known to say something of its
+    /// own beside the kept ones. After a refusal the kept lines are as before.
     pub fn push(&mut self, new: Derived) -> Result<(), OutOfMemory>
         ensures pushed { OnOk result (self.new ≡ self.old ++ new ∷ []) }
         ensures refused { OnErr result (self.new ≡ self.old) }

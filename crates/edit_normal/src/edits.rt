@@ -22,8 +22,8 @@ pub fn rule_edits(alloc: Global, survey: &Survey) -> Result<Edits, OutOfMemory>
     Ok(edits)
 }
 
-// The lines without the numbers of their rules, each numbered by its place, from 0. They are at most 1000:
-// two for each of 500 rules.
+// The lines, each with its place, from 0, as its number in the place of its rule's. They are at most
+// 1000: two for each of 500 rules.
 fn number_lines(alloc: Global, rule_lines: Vec<RuleLine>) -> Result<Vec<(u32, Line)>, OutOfMemory>
     requires { length rule_lines.items ≤ 1000 }
     ensures { IfOk result (λ lines. lines.items ≡ placed_from 0 (map (λ l. l.line) rule_lines.items)) }

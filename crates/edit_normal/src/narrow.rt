@@ -8,8 +8,8 @@ ghost use Rattle.edit_normal.specs.NormalForm.{narrowed};
 
 use crate::survey_shape::SurveyShape;
 
-/// Narrows the sets at the field, which is categorical, to the codes that meet the test: those of `codes`,
-/// as bits, or the field's others where the test is negated.
+/// Leaves in the field's set only the codes that meet the test. These are those of `codes`, as bits, or
+/// the field's others where the test is negated. The field is categorical. The set may come out empty.
 pub(crate) fn narrow(
     fields: &SurveyShape,
     sets: &mut Vec<u64>,
@@ -32,8 +32,8 @@ pub(crate) fn narrow(
     sets[place] &= wanted;
 }
 
-/// Narrows the sets at the field, which is categorical, to the codes that do not meet the test: where a
-/// conclusion fails.
+/// Leaves in the field's set only the codes that do not meet the test: there a conclusion fails. The
+/// field is categorical. The set may come out empty.
 pub(crate) fn narrow_where_false(
     fields: &SurveyShape,
     sets: &mut Vec<u64>,

@@ -31,7 +31,8 @@ pub fn normal_lines(alloc: Global, survey: &Survey) -> Result<Vec<RuleLine>, Out
     Ok(lines)
 }
 
-/// The lines of all rules, in order, without the numbers of their rules; at most 1000.
+/// The normal lines of all rules, in order, for callers that need not know which rule a line came from.
+/// They are at most 1000.
 pub fn lines_of_rules(alloc: Global, survey: &Survey) -> Result<Vec<Line>, OutOfMemory>
     ensures lines { IfOk result (λ lines. lines.items ≡ normal_lines_of survey.now) }
     ensures over { IfOk result (λ lines. AreOver (shape_of survey.now.fields) lines.items) }

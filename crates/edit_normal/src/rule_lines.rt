@@ -23,8 +23,8 @@ use edit_model::{Compare, Linear, Rule, Test};
 use foundation::OutOfMemory;
 use std::alloc::Global;
 
-/// Appends the lines of a rule, each with the rule's number. A line with an empty set of codes is left out,
-/// here and below: it asks nothing.
+/// Appends the lines of a rule, each with the rule's number. A line with an empty set of codes would
+/// ask nothing, and is left out, here and below.
 pub(crate) fn push_rule(
     alloc: Global,
     fields: &SurveyShape,
@@ -43,7 +43,7 @@ pub(crate) fn push_rule(
     }
 }
 
-// Appends the lines of a rule without conditions, which has this conclusion.
+// Appends the lines of a rule without conditions, which asks for its conclusion of each record.
 fn push_always(
     alloc: Global,
     fields: &SurveyShape,
@@ -113,8 +113,8 @@ fn push_implied(
     push_conclusion(alloc, fields, sets, &rule.conclusion, number, lines)
 }
 
-// Appends the lines of a conclusion, which are asked where the codes are in the sets. If it is a test on
-// codes, no codes in the sets may fail it.
+// Appends the lines of a conclusion, which are asked where the codes are in the sets. A test that
+// compares a sum is asked there. Of a test on codes the line says that no codes in the sets fail it.
 fn push_conclusion(
     alloc: Global,
     fields: &SurveyShape,
@@ -140,9 +140,9 @@ fn push_conclusion(
     }
 }
 
-// Appends the lines of a rule whose last condition compares a sum. Where the codes are in the sets and fail
-// the conclusion, the sum must not compare so. No rule of a survey has a comparison as its conclusion here,
-// so none is appended for it.
+// Appends the lines of a rule whose last condition compares a sum. Where the codes are in the sets and
+// fail the conclusion, the sum must not compare so. Where the conclusion compares a sum too, none is
+// appended; no survey has such a rule.
 fn push_condition(
     alloc: Global,
     fields: &SurveyShape,
@@ -218,7 +218,8 @@ fn push_contrary(
 }
 
 // Appends the line that says that the test's sum is on this side of 0 where the codes are in the sets.
-// Where a set is empty it appends none. The side `Zero` is asked of whole sets alone.
+// Where a set is empty none is appended. The side `Zero` is asked of whole sets alone, since an
+// equality is for all codes.
 fn push_side(
     alloc: Global,
     fields: &SurveyShape,
@@ -239,8 +240,8 @@ fn push_side(
     Ok(())
 }
 
-// Appends the line that the codes are never in all these sets: where they are, it asks that -1 is at least
-// 0. Where a set is empty it appends none.
+// Appends the line that says that the codes are never in all these sets. Where they are, it asks that
+// -1 is at least 0. Where a set is empty none is appended.
 fn push_never(
     alloc: Global,
     fields: &SurveyShape,

@@ -24,15 +24,15 @@ pub(crate) enum Side {
 }
 
 impl Side {
-    /// Whether the line has the negative of the test's sum: a line only says that something is at least 0,
-    /// above 0, or 0.
+    /// Whether the line has the negative of the test's sum. So it has for `AtMost` and `Below`, since a
+    /// line only says that something is at least 0, above 0, or 0.
     fn is_negative(self) -> bool
         ensures { result ≡ is_negative self }
     {
         matches!(self, Side::AtMost | Side::Below)
     }
 
-    /// What the line asks of the test's sum, or of its negative.
+    /// What the line asks: of the test's sum, or of its negative where `is_negative` says so.
     fn relation(self) -> Relation
         ensures { result ≡ relation_of self }
     {
@@ -64,7 +64,8 @@ pub(crate) fn side_line(
     Ok(Line::divided(fields.shape(), sets, factors, constant, side.relation()))
 }
 
-// The factor of each of the fields in the test, or its negative where `negative` is true.
+// The factor of each of the fields in the test, in order, or its negative where `negative` is true. A
+// field without a term has the factor 0.
 fn factors_of(
     alloc: Global,
     fields: &[u32],
@@ -95,7 +96,8 @@ fn factor_at(linear: &Linear, field: u32, negative: bool) -> i128
     0
 }
 
-// The number, or its negative where `negative` is true, in 128 bits, where it always fits.
+// The number, or its negative where `negative` is true. It is given in 128 bits, where the negative of
+// each number of 64 bits fits.
 fn with_sign(number: i64, negative: bool) -> i128
     ensures value { result ≡ signed negative number }
     ensures in_range { InRange result }

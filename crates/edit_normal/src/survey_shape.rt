@@ -33,7 +33,7 @@ impl Model for SurveyShape {
 }
 
 impl SurveyShape {
-    /// The shape of the survey, and what is looked up in it.
+    /// The shape of the survey, with the fields of each kind and the whole sets, looked up once.
     pub(crate) fn of(alloc: Global, survey: &Survey) -> Result<SurveyShape, OutOfMemory>
         ensures { IfOk result (λ fields. fields ≡ shape_of survey.now.fields) }
     {
@@ -49,21 +49,21 @@ impl SurveyShape {
         })
     }
 
-    /// The shape.
+    /// The shape alone, as lines keep it.
     pub(crate) fn shape(&self) -> Shape
         ensures { domains result ≡ self.now }
     {
         self.shape
     }
 
-    /// The numerical fields, in declared order.
+    /// The numbers of the numerical fields, from 0, in declared order: a line has a factor for each.
     pub(crate) fn numbers(&self) -> &[u32]
         ensures { result.now ≡ number_fields self.now }
     {
         self.numbers.as_slice()
     }
 
-    /// The whole set of each categorical field, in declared order.
+    /// The set of all codes, as bits, of each categorical field, in declared order.
     pub(crate) fn wholes(&self) -> &[u64]
         ensures { result.now ≡ whole_sets self.now }
     {

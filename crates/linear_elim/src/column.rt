@@ -20,7 +20,8 @@ pub(crate) struct Column {
 }
 
 impl Column {
-    /// The column of a field of this shape. No memory.
+    /// The column of the field of this number, from 0. Where it is not numerical, no line has a factor
+    /// at its place, and each counts as 0. No memory.
     pub(crate) fn of(shape: Shape, field: u32) -> Column
         ensures shape { result.shape ≡ shape }
         ensures field { result.field ≡ field }
@@ -78,8 +79,8 @@ impl Column {
         line.relation().is_equal() && !self.is_flat(line)
     }
 
-    /// The name of a place among a line's factors and its constant: the field of the factor, or the
-    /// constant behind them. No memory.
+    /// The name of a place, from 0, among a line's factors and the constant behind them: the field of
+    /// the factor, or the constant. By it an overflow is told. No memory.
     pub(crate) fn place_at(&self, place: usize) -> Place
         ensures { result ≡ place_named (number_fields (domains self.now.shape)) place }
     {
@@ -87,8 +88,8 @@ impl Column {
     }
 }
 
-// The name of a place among the factors and the constant behind them. Factors stand beside the numerical
-// fields, which are those whose count of codes is 0.
+// The name of a place among the factors and the constant behind them. `counts` has the number of codes
+// of each field. Factors stand beside the numerical fields, which have 0 codes.
 fn place_at(counts: &[u8], place: usize) -> Place
     requires { length counts.now ≤ 64 }
     ensures { result ≡ place_named (number_fields (map domain_with counts.now)) place }
@@ -105,8 +106,8 @@ fn place_at(counts: &[u8], place: usize) -> Place
     Place::Constant
 }
 
-// The place of the field among the numerical fields, which are those whose count of codes is 0; the number
-// of these where it is none of them.
+// The place of the field among the numerical fields, from 0; their number where it is none of them.
+// `counts` has the number of codes of each field, which is 0 for a numerical one.
 fn place_in(counts: &[u8], field: u32) -> usize
     requires { length counts.now ≤ 64 }
     ensures { result ≡ place_in (number_fields (map domain_with counts.now)) field }

@@ -21,9 +21,9 @@ struct Multipliers {
 }
 
 impl Multipliers {
-    // Those of a line with the factor `a` and one with the factor `b`, neither of which is 0. The second is
-    // above 0. The first is above 0 where the factors have opposite signs; else it is below 0, as only an
-    // equality may be multiplied. No memory.
+    // The multipliers of a line that has the factor `a` at the field and one that has `b` there,
+    // neither of which is 0. The second is above 0. The first is above 0 where the factors have
+    // opposite signs. Else it is below 0, as only an equality may be multiplied. No memory.
     fn of(a: i128, b: i128) -> Multipliers
         requires first { a ≢ pos 0 }
         requires second { b ≢ pos 0 }
@@ -57,8 +57,8 @@ fn negative(number: i128) -> i128
     -number
 }
 
-// The greatest common divisor of two factors, which is 1 where the first is 1 or the second is -1. It is
-// not looked for then.
+// The greatest common divisor of two factors. Where the first is 1 or the second -1 it is 1, and is not
+// looked for.
 fn common_divisor(a: i128, b: i128) -> i128
     requires a_in_range { InRange a }
     requires b_in_range { InRange b }
@@ -94,10 +94,10 @@ impl Scales {
     }
 }
 
-/// Writes the combination of `s` and `t`, in both of which the column's field stands, into `line`, which
-/// is then without the field. The sets of both meet. The answer is what they were multiplied with and
-/// divided by. Or it is the first place, among the factors and then the constant, at which a number on the
-/// way is out of range. No memory.
+/// Writes into `line` the combination of `s` and `t` in which the column's field is gone. The field
+/// stands in both, and their sets meet. The answer is what they were multiplied with and divided by. Or
+/// it is the first place at which a number on the way is out of range, and `line` then means nothing.
+/// Places are those of the factors, from 0, and the constant stands behind them. No memory.
 pub(crate) fn combine(line: &mut Line, column: &Column, s: &Line, t: &Line) -> Result<Scales, usize>
     requires over { line.old.shape ≡ domains column.now.shape }
     requires s_over { s.now.shape ≡ domains column.now.shape }

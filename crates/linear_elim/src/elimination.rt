@@ -70,7 +70,8 @@ pub fn step(alloc: Global, lines: &[Derived], field: u32) -> Result<Vec<Derived>
     step_from::<Brand>(alloc, lines, field, Blank::new(1))
 }
 
-// The step with a counter of its own, for callers that count nothing.
+// The step with a counter of its own, which nobody reads. `blank` is one of the ledger `L` (`name`,
+// `parts`), from which the counter starts.
 fn step_from<L: Ledger>(
     alloc: Global,
     lines: &[Derived],
@@ -87,8 +88,8 @@ fn step_from<L: Ledger>(
     counted_step(alloc, lines, field, &mut steps)
 }
 
-// The step over any lines, reduced or not. In `steps`, one is counted for each pair of lines that is
-// combined. An empty list has no shape, and gives no lines.
+// The step over any lines, reduced or not, which [`step`] takes. In `steps`, one is counted for each
+// pair of lines that is combined. An empty list has no shape, and gives no lines.
 fn counted_step<L: Ledger>(
     alloc: Global,
     lines: &[Derived],
@@ -132,9 +133,9 @@ pub fn reduced_step<L: Ledger>(
     combined_step(alloc, &given, flat, steps)
 }
 
-// The lines without the field, `flat`, with those that the step makes taken in among them. One is taken in
-// as soon as it is made, so that no memory is taken for one that says nothing of its own. One step is
-// counted for each pair that is combined.
+// What [`step`] answers, from the lines without the field, `flat`: those that the step makes are taken
+// in among them. One is taken in as soon as it is made, so that no memory is taken for one that says
+// nothing of its own. One step is counted for each pair that is combined.
 fn combined_step<L: Ledger>(
     alloc: Global,
     given: &StepLines,
@@ -159,7 +160,7 @@ fn combined_step<L: Ledger>(
 }
 
 // Takes in the lines that the step makes: where an equality has the field, its substitutions; else the
-// combinations of opposite lines. Each is written into the line of the work.
+// combinations of opposite lines. Each is written into the line of the work, which is reused.
 fn take_made<L: Ledger>(
     alloc: Global,
     given: &StepLines,
@@ -201,8 +202,8 @@ fn take_combinations<L: Ledger>(
     Ok(())
 }
 
-// The lines without the field, in order, from a reduced list. They are reduced as that is, so they are not
-// compared.
+// The lines without the field, in order, from a reduced list, each with its place there as its origin.
+// They are reduced as that list is, so they are not compared.
 fn own_flat_lines(alloc: Global, given: &StepLines) -> Result<Kept, OutOfMemory>
     requires own { AreOwn (lines_of given.now.lines.now) }
     ensures { IfOk result (λ flat. flat ≡ reduce_derived (flat_from given.now.column.field 0 given.now.lines.now)) }
@@ -235,7 +236,8 @@ fn push_flat(
     Ok(())
 }
 
-// Copies of the lines in which the field does not stand, in order, reduced.
+// The lines without the field, in order, from any list, each with its place there as its origin. They
+// are reduced here.
 fn flat_lines(alloc: Global, given: &StepLines) -> Result<Kept, OutOfMemory>
     ensures { IfOk result (λ flat. flat ≡ reduce_derived (flat_from given.now.column.field 0 given.now.lines.now)) }
 {
@@ -264,7 +266,8 @@ fn take_flat(
     Ok(())
 }
 
-// The places of the lines that bound the field from above, in order.
+// The places, from 0, of the lines that bound the field from above, in order. A line that bounds it
+// from below is combined with some of these, and looks at no others.
 fn upper_places(alloc: Global, given: &StepLines) -> Result<Vec<usize>, OutOfMemory>
     ensures { IfOk result (λ uppers. uppers.items ≡ places_from (is_upper given.now.column.field) 0 given.now.lines.now) }
 {
@@ -346,8 +349,8 @@ fn take_opposites<L: Ledger>(
     Ok(())
 }
 
-// Takes in the combination of the line `s`, which bounds the field from below, and the line at the place,
-// if that is opposite. Where no line is there, nothing is done.
+// Takes in the combination of the line `s`, which bounds the field from below, and the line at the
+// place, if that is opposite. Where no line has the place, nothing is done.
 fn take_at<L: Ledger>(
     alloc: Global,
     given: &StepLines,

@@ -52,7 +52,8 @@ pub fn extend<L: Ledger>(
     }
 }
 
-// The system with the field, of these lines, which the step at the field made.
+// The system that is without this field too. `lines` are what the step at the field made of the
+// system's lines.
 fn system_with(system: &System, field: u32, lines: Vec<Derived>) -> Result<System, OutOfMemory>
     requires numerical { IsNumerical system.now.edits.shape field }
     requires lines { system_at system.now.edits (with_number system.now.fields field) ≡ Ok lines.items }

@@ -109,7 +109,8 @@ impl<T: Drop> From<AllocFailed<T>> for StepFault {
     }
 }
 
-/// The fault of a fold that stops at the step of this field: the step's fault, with the field named.
+/// The fault of a fold that stops in the step at this field: the step's fault, with the field named.
+/// Want of memory names none.
 pub(crate) fn at_field(fault: StepFault, field: u32) -> SystemFault
     ensures { told_system result ≡ option_map (overflow_at field) (told_step fault) }
 {

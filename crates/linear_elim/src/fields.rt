@@ -6,8 +6,9 @@ ghost use Rattle.linear_elim.specs.Systems.{AreNumerical};
 use edit_line::Edits;
 use edit_model::FieldSet;
 
-/// The field of the set with the greatest number, None where the set is empty. The fields are numerical
-/// ones of the edits, whose shape says how many fields there are. No memory.
+/// The field of the set with the greatest number, None where the set is empty. The system without the
+/// set is made by one step, at this field, from the system without the other fields. All fields of the
+/// set are numerical ones of the edits. No memory.
 pub fn last_field(edits: &Edits, fields: FieldSet) -> Option<u32>
     requires { AreNumerical edits.now.shape fields }
     ensures some { IfSome result (λ field. IsLast fields field) }

@@ -56,7 +56,7 @@ pub fn fold_system<L: Ledger>(
     Ok(System::of(share(edits)?, fields, lines))
 }
 
-// One owner more of the same edits, for the system.
+// One owner more of the same edits, for the system, which keeps them.
 fn share(edits: &Arc<Edits>) -> Result<Arc<Edits>, OutOfMemory>
     ensures { IfOk result (λ other. arc_value other ≡ arc_value edits.now) }
 {
@@ -94,8 +94,8 @@ fn fold_lines<L: Ledger>(
     }
 }
 
-// The lines of the fold so far: those of the last step, or those that the fold begins with, `base`, where
-// no step was taken yet.
+// The lines that the fold has reached: those of the last step. Where no step was taken yet (None), they
+// are those that it begins with, `base`.
 fn current_lines<'a>(base: &'a [Derived], lines: &'a Option<Vec<Derived>>) -> &'a [Derived]
     ensures { result.now ≡ so_far base.now lines.now }
 {
@@ -105,7 +105,7 @@ fn current_lines<'a>(base: &'a [Derived], lines: &'a Option<Vec<Derived>>) -> &'
     }
 }
 
-// Equal lines, for a fold over no field.
+// Equal lines with the same origins: the system of no field has copies of the reduced edits.
 fn copy_all(alloc: Global, lines: &[Derived]) -> Result<Vec<Derived>, OutOfMemory>
     ensures { IfOk result (λ v. v.items ≡ lines.now) }
 {
@@ -116,8 +116,9 @@ fn copy_all(alloc: Global, lines: &[Derived]) -> Result<Vec<Derived>, OutOfMemor
     Ok(copies)
 }
 
-// The lines after the field: if it is numerical and in the set, those of the step at it. None stands for the
-// lines that the fold begins with, which are not copied.
+// The lines of the fold after the field is looked at. If it is numerical and in the set, they are those
+// of the step at it; else they stay. None stands for the lines that the fold begins with, `base`, which
+// are not copied.
 fn next_lines<L: Ledger>(
     alloc: Global,
     base: &[Derived],

@@ -10,10 +10,10 @@ use crate::step_lines::StepLines;
 use crate::substitution::{first_equality, is_substituted};
 use edit_line::{Derived, Line, all_meet};
 
-/// The number of pairs of lines that the step at the field combines. Where an equality has the field, the
-/// first such equality makes a pair with each other line that has it. Else a pair is a line that bounds the
-/// field from below and one that bounds it from above, where all their sets meet. The lines are over one
-/// survey's fields. No memory.
+/// The number of pairs of lines that the step at the field combines. Where an equality has the field,
+/// the first such equality makes a pair with each other line that has it. Else a pair is a line that
+/// bounds the field from below and one that bounds it from above, where all their sets meet. A list
+/// without lines has none. The lines are over one survey's fields. No memory.
 pub fn pairs(lines: &[Derived], field: u32) -> u128
     requires { OneShape lines.now }
     ensures exact { result ≡ pairs_count lines.now field }
@@ -30,8 +30,8 @@ pub fn pairs(lines: &[Derived], field: u32) -> u128
     }
 }
 
-// The number of lines in which the field stands, but for the equality at the place `equality`: into each of
-// them it is substituted.
+// The number of lines into which the equality at the place `equality` is substituted: those in which
+// the field stands, but itself.
 fn substitutions(given: &StepLines, equality: usize) -> usize
     ensures { result ≡ substituted_count given.now.column.field equality 0 given.now.lines.now }
 {
@@ -54,7 +54,8 @@ fn opposite_pairs(given: &StepLines) -> u128
     pairs
 }
 
-// The number of lines that are opposite to the line `s`, 0 where that does not bound the field from below.
+// The number of lines that are opposite to the line `s`: the pairs that it makes. It is 0 where `s`
+// does not bound the field from below.
 fn row_pairs(given: &StepLines, s: &Derived) -> usize
     requires s_over { s.now.line.shape ≡ domains given.now.column.shape }
     ensures count { result ≡ row_count given.now.column.field given.now.lines.now s.now }
@@ -70,9 +71,9 @@ fn row_pairs(given: &StepLines, s: &Derived) -> usize
     count
 }
 
-/// Whether `t` is opposite to `s`, a line that bounds the column's field from below, which is not asked
-/// again. It bounds the field from above, and each of its sets meets that of `s` for the same field. No
-/// memory.
+/// Whether the line `t` makes an opposite pair with `s`, which elimination combines. `t` has to bound
+/// the column's field from above, and each of its sets has to meet that of `s`. The caller knows that
+/// `s` bounds the field from below. No memory.
 pub(crate) fn is_opposite(column: &Column, s: &Line, t: &Line) -> bool
     requires s_over { s.now.shape ≡ domains column.now.shape }
     requires t_over { t.now.shape ≡ domains column.now.shape }

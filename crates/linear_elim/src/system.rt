@@ -36,8 +36,8 @@ impl Model for System {
 }
 
 impl System {
-    /// The system of these edits and fields, whose lines the caller knows to be those of the fold. No
-    /// memory.
+    /// The system of these edits and fields. The caller knows that the lines are those of the fold over
+    /// these fields. No memory.
     pub(crate) fn of(edits: Arc<Edits>, fields: FieldSet, lines: Vec<Derived>) -> System
         requires { IsMade (parts_of_system (arc_value edits) fields lines.items) }
         ensures { result ≡ parts_of_system (arc_value edits) fields lines.items }
