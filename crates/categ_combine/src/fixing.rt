@@ -195,13 +195,13 @@ fn take_widened(
         code_box: made_whole(alloc, &by.spot, b)?,
         origin: BoxOrigin::Fixed(i),
     };
-    put_beside(kept, widened, by.apart)
+    take_compared(kept, widened, by.apart)
 }
 
 // Appends the box and removes the kept ones that lie inside it. It does nothing where the box lies inside
 // a kept one with which it is compared, as `is_compared` tells. `apart` says whether the given boxes lie
 // apart.
-fn put_beside(kept: &mut Vec<BoxFrom>, new: BoxFrom, apart: bool) -> Result<(), OutOfMemory>
+fn take_compared(kept: &mut Vec<BoxFrom>, new: BoxFrom, apart: bool) -> Result<(), OutOfMemory>
     ensures { OnOk result (kept.new.items ≡
         (if list_any (λ b. is_compared apart b.origin && are_subsets new.code_box.sets b.code_box.sets) kept.old.items
         then kept.old.items

@@ -105,7 +105,7 @@ fn counted_step<L: Ledger>(
     let column = Column::of(head.line.shape(), field);
     let given = StepLines { column, lines };
     let flat = flat_lines(alloc, &given)?;
-    combined_step(alloc, &given, flat, steps)
+    finish_step(alloc, &given, flat, steps)
 }
 
 /// The same step over reduced lines, of which none says what another says. It answers as [`step`] does,
@@ -130,13 +130,13 @@ pub fn reduced_step<L: Ledger>(
     let column = Column::of(head.line.shape(), field);
     let given = StepLines { column, lines };
     let flat = own_flat_lines(alloc, &given)?;
-    combined_step(alloc, &given, flat, steps)
+    finish_step(alloc, &given, flat, steps)
 }
 
 // What [`step`] answers, from the lines without the field, `flat`: those that the step makes are taken
 // in among them. One is taken in as soon as it is made, so that no memory is taken for one that says
 // nothing of its own. One step is counted for each pair that is combined.
-fn combined_step<L: Ledger>(
+fn finish_step<L: Ledger>(
     alloc: Global,
     given: &StepLines,
     flat: Kept,
