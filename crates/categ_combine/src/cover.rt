@@ -24,8 +24,8 @@ struct CoverWork {
     sets: Vec<u64>,
 }
 
-/// The covers of one code more than those of `covers`: what each has in common with each box that takes
-/// part for the code. Those that lie inside another are left out.
+/// The covers of one code more than `covers` have. Each is what one of `covers` has in common with a
+/// box that takes part for the code. Those that lie inside another are left out.
 pub(crate) fn with_code(
     alloc: Global,
     boxes: &[BoxFrom],
@@ -48,8 +48,8 @@ pub(crate) fn with_code(
     Ok(work.next)
 }
 
-/// Whether the box takes part for the code at the spot's field. It has the code there, and not all codes: a
-/// box with all stays as it is.
+/// Whether the box may be a cover's part for the code at the spot's field. It has the code there, but
+/// not all codes: a box with all stays as it is.
 pub(crate) fn takes_part(b: &BoxFrom, at: &CodeAt) -> bool
     requires { b.now.code_box.shape ≡ domains at.now.spot.shape }
     ensures { result ≡ takes_part at.now.spot.place at.now.spot.whole at.now.code b.now.code_box.sets }
@@ -58,7 +58,7 @@ pub(crate) fn takes_part(b: &BoxFrom, at: &CodeAt) -> bool
     set != at.spot.whole && has_code(set, at.code)
 }
 
-// Takes what the cover has in common with each box that takes part for the code into the next covers.
+// Takes into the next covers what the cover has in common with each box that takes part for the code.
 fn take_intersections(
     alloc: Global,
     work: &mut CoverWork,
@@ -77,9 +77,9 @@ fn take_intersections(
     Ok(())
 }
 
-// Takes what the cover has in common with the box `b`, at the place, into the next covers; the box is then
-// its next part. It is left out where the box does not take part for the code, or where a set comes out
-// empty. No box is made of what is left out.
+// Takes into the next covers what the cover has in common with the box `b`, at the place, which is then
+// its next part. Nothing is taken where the box does not take part for the code, or where a set comes
+// out empty. No box is made of what is left out.
 fn take_intersection(
     alloc: Global,
     work: &mut CoverWork,
@@ -125,7 +125,7 @@ fn write_intersection(
 }
 
 // Takes the cover of these sets into the next covers, unless it lies inside one of them. Its parts are
-// those of `cover`, and the box at the place.
+// those of `cover`, and behind them the box at the place.
 fn take_sets(
     alloc: Global,
     next: &mut Vec<BoxFrom>,
@@ -145,7 +145,8 @@ fn take_sets(
     replace_inside(next, BoxFrom { code_box, origin })
 }
 
-// The places of a cover's parts; a box that is no cover has none.
+// The places of the boxes that a cover is made of, one for each code so far. A box that is no cover has
+// none.
 fn parts_of(origin: &BoxOrigin) -> &[u64]
     ensures { result.now ≡ cover_parts origin.now }
 {
@@ -155,7 +156,7 @@ fn parts_of(origin: &BoxOrigin) -> &[u64]
     }
 }
 
-// The list with one more number behind it.
+// The places of a cover's parts, and behind them one more.
 fn with_part(alloc: Global, parts: &[u64], part: u64) -> Result<Vec<u64>, OutOfMemory>
     ensures { IfOk result (λ all. all.items ≡ parts.now ++ part ∷ []) }
 {

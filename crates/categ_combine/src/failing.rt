@@ -59,7 +59,8 @@ pub fn boxes_of(
     Ok(kept)
 }
 
-// Takes the sets of the line at the place into the kept boxes, if its linear part failed at the record.
+// Takes the sets of the line at the place, from 0, into the kept boxes, if its linear part failed at
+// the record. Codes that are all in them are then forbidden. If it did not fail, nothing is done.
 fn take_line(
     alloc: Global,
     kept: &mut Vec<BoxFrom>,

@@ -122,8 +122,8 @@ fn fix_at(alloc: Global, boxes: &[BoxFrom], by: &Fixing) -> Result<Vec<BoxFrom>,
     Ok(kept)
 }
 
-// Takes the box `b`, at the place `i`, into the kept ones, made whole at the spot's field. A box without
-// the code there is left out, since it forbids nothing any more.
+// Takes the box `b`, at the place `i`, into the kept ones, made whole at the spot's field. A box
+// without the code there is left out, since it forbids nothing where the field keeps the code.
 fn take_fixed(
     alloc: Global,
     kept: &mut Vec<BoxFrom>,
@@ -177,7 +177,8 @@ fn take_unchanged(
     }
 }
 
-// Takes the box `b`, at the place `i` and not whole at the spot's field, into the kept ones, made whole.
+// Takes the box `b`, at the place `i`, into the kept ones. It is not whole at the spot's field, and is
+// made whole there. Where it then lies inside a kept one, nothing is done.
 fn take_widened(
     alloc: Global,
     kept: &mut Vec<BoxFrom>,
@@ -198,9 +199,9 @@ fn take_widened(
     take_compared(kept, widened, by.apart)
 }
 
-// Appends the box and removes the kept ones that lie inside it. It does nothing where the box lies inside
-// a kept one with which it is compared, as `is_compared` tells. `apart` says whether the given boxes lie
-// apart.
+// Appends the box and removes the kept ones that lie inside it. Nothing is done where the box lies
+// inside a kept one with which it is compared, as `is_compared` tells. `apart` says whether the given
+// boxes lie apart.
 fn take_compared(kept: &mut Vec<BoxFrom>, new: BoxFrom, apart: bool) -> Result<(), OutOfMemory>
     ensures { OnOk result (kept.new.items ≡
         (if list_any (λ b. is_compared apart b.origin && are_subsets new.code_box.sets b.code_box.sets) kept.old.items
@@ -213,22 +214,22 @@ fn take_compared(kept: &mut Vec<BoxFrom>, new: BoxFrom, apart: bool) -> Result<(
     replace_inside(kept, new)
 }
 
-// Whether the sets lie inside those of a kept box, of the kept boxes with which they are compared.
+// Whether the sets lie inside those of a kept box with which they are compared, as `is_compared` tells.
 fn lie_in_compared(sets: &[u64], kept: &[BoxFrom], apart: bool) -> bool
     ensures { result ≡ list_any (λ b. is_compared apart b.origin && are_subsets sets.now b.code_box.sets) kept.now }
 {
     kept.iter().any(|b| is_compared(&b.origin, apart) && b.code_box.has_inside(sets))
 }
 
-// Whether a later box is compared with the kept one of this origin. Where the boxes lie apart, it can lie
-// only inside one that was made whole.
+// Whether a later box is compared with the kept one of this origin. Where `apart` says that the given
+// boxes lie apart, it can lie only inside one that was made whole.
 fn is_compared(origin: &BoxOrigin, apart: bool) -> bool
     ensures { result ≡ is_compared apart origin.now }
 {
     !apart || matches!(origin, BoxOrigin::Fixed(_))
 }
 
-// The box with all codes at the spot's field.
+// The same box, but with all codes at the spot's field.
 fn made_whole(alloc: Global, spot: &Spot, b: &BoxFrom) -> Result<CodeBox, OutOfMemory>
     requires { b.now.code_box.shape ≡ domains spot.now.shape }
     ensures { IfOk result (λ whole. whole ≡ box_of b.now.code_box.shape (slice_set b.now.code_box.sets spot.now.place spot.now.whole)) }

@@ -8,8 +8,8 @@ ghost use Rattle.categ_combine.specs.BoxLists.{with_from};
 use crate::box_from::BoxFrom;
 use foundation::OutOfMemory;
 
-/// Appends the box and removes the kept ones that lie inside it; but does nothing where it lies inside a
-/// kept one.
+/// Appends the box and removes the kept ones that lie inside it. Where it lies inside a kept one, it
+/// forbids nothing of its own, and nothing is done.
 pub(crate) fn take_in(kept: &mut Vec<BoxFrom>, new: BoxFrom) -> Result<(), OutOfMemory>
     ensures { OnOk result (kept.new.items ≡ with_from kept.old.items new) }
 {
@@ -19,14 +19,16 @@ pub(crate) fn take_in(kept: &mut Vec<BoxFrom>, new: BoxFrom) -> Result<(), OutOf
     replace_inside(kept, new)
 }
 
-/// Whether the sets lie inside those of a kept box.
+/// Whether the sets lie inside those of a kept box, so that a box of them would forbid nothing of its
+/// own.
 pub(crate) fn lie_inside(sets: &[u64], kept: &[BoxFrom]) -> bool
     ensures { result ≡ list_any (λ b. are_subsets sets.now b.code_box.sets) kept.now }
 {
     kept.iter().any(|b| b.code_box.has_inside(sets))
 }
 
-/// Appends the box, and removes the kept ones that lie inside it.
+/// Appends the box, and removes the kept ones that lie inside it. Whether it lies inside a kept one is
+/// not asked: the caller has asked it.
 pub(crate) fn replace_inside(kept: &mut Vec<BoxFrom>, new: BoxFrom) -> Result<(), OutOfMemory>
     ensures { OnOk result (kept.new.items
         ≡ filter (λ b. not (are_subsets b.code_box.sets new.code_box.sets)) kept.old.items ++ new ∷ []) }
@@ -36,7 +38,7 @@ pub(crate) fn replace_inside(kept: &mut Vec<BoxFrom>, new: BoxFrom) -> Result<()
     Ok(())
 }
 
-// Removes the kept boxes that lie inside `new`.
+// Removes the kept boxes that lie inside `new`; the others stay in order.
 fn remove_inside(kept: &mut Vec<BoxFrom>, new: &BoxFrom)
     ensures { kept.new.items ≡ filter (λ b. not (are_subsets b.code_box.sets new.now.code_box.sets)) kept.old.items }
 {

@@ -92,8 +92,8 @@ pub fn step_apart(
     }
 }
 
-// The boxes over this shape without the field, or `Passed`, as [`cat_step`] tells them. `apart` says that
-// none of the boxes lies inside another.
+// What [`cat_step`] tells of boxes over this shape: those without the field, or `Passed`. `apart` says
+// that none of the boxes lies inside another.
 fn step_over(
     alloc: Global,
     shape: Shape,
@@ -123,8 +123,8 @@ fn step_over(
     }
 }
 
-// The covers of the codes below `size`, or None where more pairs than `most` would be looked at. The pairs
-// of a code are counted before they are looked at.
+// The covers of all codes of the field, which are those below `size`. None where more pairs than `most`
+// would be looked at. The pairs of a code are counted before they are looked at.
 fn covers_of(
     alloc: Global,
     boxes: &[BoxFrom],
@@ -167,8 +167,8 @@ fn first_cover(alloc: Global, spot: &Spot) -> Result<BoxFrom, OutOfMemory>
     })
 }
 
-// How many pairs one code takes: `covers`, the number of the covers so far, times the boxes that take part
-// for the code, as `parts_for` counts them.
+// How many pairs of a cover and a box are looked at for one code. It is `covers`, the number of the
+// covers so far, times the number of boxes that take part for the code.
 fn pairs_for(boxes: &[BoxFrom], covers: usize, at: &CodeAt) -> u128
     requires { AreBoxesOver (domains at.now.spot.shape) boxes.now }
     ensures { result ≡ covers * length (filter (λ b.
@@ -178,7 +178,8 @@ fn pairs_for(boxes: &[BoxFrom], covers: usize, at: &CodeAt) -> u128
     covers as u128 * parts as u128
 }
 
-// How many of the boxes take part for the code: they have it at the spot's field, but not all codes.
+// How many of the boxes take part for the code: they have it at the spot's field, but not all codes. A
+// box with all codes stays as it is, and is part of no cover.
 fn parts_for(boxes: &[BoxFrom], at: &CodeAt) -> usize
     requires { AreBoxesOver (domains at.now.spot.shape) boxes.now }
     ensures { result ≡ length (filter (λ b.
@@ -187,8 +188,8 @@ fn parts_for(boxes: &[BoxFrom], at: &CodeAt) -> usize
     boxes.iter().filter(|b| takes_part(b, at)).count()
 }
 
-// The boxes that are whole at the spot's field, without those that lie inside another. Where `apart` says
-// that the boxes lie apart, none does.
+// The boxes that are whole at the spot's field, as they were, without those that lie inside another.
+// Where `apart` says that the boxes lie apart, none does, and none is compared.
 fn whole_boxes(
     alloc: Global,
     boxes: &[BoxFrom],
@@ -221,7 +222,8 @@ fn whole_copies(alloc: Global, boxes: &[BoxFrom], spot: &Spot) -> Result<Vec<Box
     Ok(whole)
 }
 
-// Appends a copy of the box `b`, at the place `i`, if it is whole at the spot's field.
+// Appends a copy of the box `b`, at the place `i`, if it is whole at the spot's field. Its origin says
+// that it is unchanged.
 fn push_whole(
     alloc: Global,
     whole: &mut Vec<BoxFrom>,
@@ -244,7 +246,8 @@ fn push_whole(
     Ok(())
 }
 
-// The kept boxes and these, without those that lie inside another.
+// The kept boxes, and then these, taken in one after the other. Those that lie inside another are left
+// out.
 fn with_all(mut kept: Vec<BoxFrom>, boxes: Vec<BoxFrom>) -> Result<Vec<BoxFrom>, OutOfMemory>
     ensures { IfOk result (λ all. all.items ≡ fold with_from kept.items boxes.items) }
 {

@@ -69,7 +69,8 @@ pub fn check_steps(
     }
 }
 
-// What the last step proved, or Bad at place 0 where there is no step.
+// What the last step proved, which is what the whole list proves. Bad at place 0 where there is no
+// step.
 fn last_known(alloc: Global, mut known: Vec<Known>) -> Result<Proved, StepsFault>
     ensures proved { IfOk result (λ proved. last_proved (Ok (map meaning known.entry.items)) ≡ Ok proved) }
     ensures bad { (place : ℕ) → result ≡ Err (Bad place) → last_proved (Ok (map meaning known.entry.items)) ≡ Err place }
@@ -80,7 +81,8 @@ fn last_known(alloc: Global, mut known: Vec<Known>) -> Result<Proved, StepsFault
     }
 }
 
-// What each of the steps proves, or Bad with the place of the first that is not valid.
+// What each of the steps proves, in order, or Bad with the place, from 0, of the first that is not
+// valid.
 fn known_of<'a>(
     alloc: Global,
     basis: &Basis<'a>,
@@ -102,7 +104,8 @@ fn known_of<'a>(
     Ok(known)
 }
 
-// What the step proves from what the earlier steps did, which `known` has; None where it is not valid.
+// What the step proves, a line or a box, from what the earlier steps proved, which `known` has. None
+// where it is not valid.
 fn made_by<'a>(
     alloc: Global,
     basis: &Basis<'a>,

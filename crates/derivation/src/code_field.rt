@@ -9,7 +9,8 @@ use edit_model::Survey;
 use foundation::OutOfMemory;
 use std::alloc::Global;
 
-/// The field's place among the categorical ones, from 0, or None where it is none of them. No memory.
+/// The field's place among the categorical fields, from 0: that of its set in a box. None where it is
+/// none of them. No memory.
 pub(crate) fn place_of(survey: &Survey, field: u32) -> Option<usize>
     ensures { result ≡ place_there (code_fields (shape_of survey.now.fields)) field }
 {

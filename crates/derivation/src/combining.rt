@@ -26,9 +26,9 @@ pub(crate) struct Multipliers {
     pub(crate) divisor: i128,
 }
 
-/// What a step proves that combines the lines at the places `a` and `b`: the sum of their multiples,
-/// divided. None where no line was proved at one of the places, or where the lines may not be combined so,
-/// as `combined_lines` tells.
+/// What a step `Combine` proves: the sum of multiples of the lines that were proved at the places `a`
+/// and `b`, divided. None where no line was proved at one of the places, or where the lines may not be
+/// combined so, as `combined_lines` tells.
 pub(crate) fn combine_step<'a>(
     alloc: Global,
     basis: &Basis<'a>,
@@ -50,7 +50,7 @@ pub(crate) fn combine_step<'a>(
     }
 }
 
-// The line, as what a step proved. None where there is no line, since the step is not valid.
+// The line as what a step proved. None stays None: the step is not valid.
 fn known_line<'a>(alloc: Global, line: Option<Line>) -> Result<Option<Known<'a>>, OutOfMemory>
     ensures { IfOk result (λ made. meant made ≡ lined line) }
 {
@@ -82,15 +82,15 @@ pub(crate) fn combined_lines(
     }
 }
 
-// Whether both lines may be multiplied so, and the divisor is above 0. An inequality may be multiplied by
-// numbers above 0 alone, since others would turn it round.
+// Whether each line may be multiplied by its number, and the divisor is above 0. An inequality may be
+// multiplied by numbers above 0 alone, since others would turn it round.
 fn are_allowed(by: Multipliers, s: &Line, t: &Line) -> bool
     ensures { result ≡ (may_multiply s.now.relation by.first && (may_multiply t.now.relation by.second && int_lt (pos 0) by.divisor)) }
 {
     s.relation().may_multiply(by.first) && t.relation().may_multiply(by.second) && by.divisor > 0
 }
 
-// The line with its numbers divided, or None where that leaves a remainder.
+// The line with its numbers divided by the divisor, or None where that leaves a remainder.
 fn exact_quotient(mut line: Line, divisor: i128) -> Option<Line>
     requires { pos 0 <ℤ divisor }
     ensures { lined result ≡ only_if (divides divisor line) (Proved.Line (divided_by divisor line)) }

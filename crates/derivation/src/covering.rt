@@ -17,9 +17,9 @@ use edit_line::{CodeBox, Shape, has_code, has_codes, narrow};
 use foundation::OutOfMemory;
 use std::alloc::Global;
 
-/// What a step proves that covers the field by these parts: the box of what their boxes have in common on
-/// the other fields, whole at the field. None unless the field is categorical and has one part for each
-/// code, in declared order. Each part has to be a box with its code, and no set may come out empty.
+/// What a step `Cover` proves: the box of what the boxes of its parts have in common on the other
+/// fields, whole at the field. None unless the field is categorical and has one part for each code, in
+/// declared order. Each part has to be the place of a box with its code, and no set may come out empty.
 pub(crate) fn cover_step<'a>(
     alloc: Global,
     basis: &Basis<'a>,
@@ -43,8 +43,8 @@ pub(crate) fn cover_step<'a>(
     }
 }
 
-// The box of these sets, made whole at the categorical field of this place; None where a set of it is
-// empty.
+// The box of these sets, made whole at the categorical field, which has this place among the
+// categorical ones, from 0. None where another set of it is empty.
 fn covered_at<'a>(
     alloc: Global,
     basis: &Basis<'a>,
@@ -67,8 +67,9 @@ fn covered_at<'a>(
     }
 }
 
-// What the boxes of the parts have in common, from all codes on. None where the part for a code, from 0 on,
-// is no box or has not the code at the place.
+// What the boxes of the parts have in common, begun with all codes of each field. The first part is for
+// code 0, and so on. None where a part is no box, or has not its code at the place, that of the field
+// that is covered.
 fn common_sets(
     alloc: Global,
     basis: &Basis,
@@ -94,8 +95,8 @@ fn common_sets(
     Ok(Some(common))
 }
 
-// The sets of the box that was proved at `part`, or None where there is none or it has not the code at the
-// place. No memory.
+// The sets of the box that was proved at `part`. None where no box was, or it has not the code at the
+// place, that of the field that is covered. No memory.
 fn part_with<'k>(known: &'k [Known], place: usize, code: u8, part: u64) -> Option<&'k [u64]>
     ensures part { option_map (λ s. s.now) result ≡ part_with (map meaning known.now) place code part }
     ensures fit { IfSome result (λ s. (shape : List Domain) → AllOver shape known.now → AreSets s.now (whole_sets shape)) }

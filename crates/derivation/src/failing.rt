@@ -16,8 +16,9 @@ use edit_model::{FieldSet, Row, Survey};
 use foundation::OutOfMemory;
 use std::alloc::Global;
 
-/// What a step proves that makes a box of the line at the place: the box of its sets. None where no line
-/// was proved there, or the line does not fail at the kept fields, as `fails_at_kept` tells.
+/// What a step `Fail` proves: the box of the sets of the line at the place, whose codes are forbidden.
+/// None where no line was proved there, or the line does not fail at the kept fields, as
+/// `fails_at_kept` tells.
 pub(crate) fn fail_step<'a>(
     alloc: Global,
     basis: &Basis<'a>,

@@ -17,9 +17,8 @@ use edit_model::Value;
 use foundation::OutOfMemory;
 use std::alloc::Global;
 
-/// What a step proves that fixes the field in the box at `part`: that box, made whole at the field. None
-/// unless the field is categorical and kept, a box was proved at `part`, and it has the record's code
-/// there.
+/// What a step `Fix` proves: the box that was proved at `part`, made whole at the field. None unless
+/// the field is categorical and kept, a box was proved at `part`, and it has the record's code there.
 pub(crate) fn fix_step<'a>(
     alloc: Global,
     basis: &Basis<'a>,
@@ -43,7 +42,7 @@ pub(crate) fn fix_step<'a>(
     }
 }
 
-// Whether the categorical field is one of those whose values the steps keep.
+// Whether the categorical field is one of those that keep the record's value.
 fn is_kept(basis: &Basis, field: u32) -> bool
     requires { has_field (code_fields (shape_in basis.now)) field ≡ true }
     ensures { result ≡ has_number basis.now.kept field }
@@ -52,8 +51,8 @@ fn is_kept(basis: &Basis, field: u32) -> bool
     basis.kept.has(field)
 }
 
-// The box, made whole at the categorical field of this place; None where it has not the record's code
-// there.
+// The box, made whole at the categorical field, which has this place among the categorical ones, from
+// 0. None where the box has not the record's code there.
 fn fixed_at<'a>(
     alloc: Global,
     basis: &Basis<'a>,
@@ -78,7 +77,8 @@ fn fixed_at<'a>(
     Ok(Some(Known::of_box(alloc, code_box)?))
 }
 
-// Whether the value is a code of the set, kept as bits; no number and no missing value is.
+// Whether the value is a code of the set, which is kept as bits. It is not where the value is a number
+// or missing.
 fn has_value(set: u64, value: &Value) -> bool
     ensures { result ≡ has_value set value.now }
 {

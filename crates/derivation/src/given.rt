@@ -10,8 +10,8 @@ use crate::basis::Basis;
 use crate::known::Known;
 use edit_line::Line;
 
-/// What a step proves that takes the given line at the place; None where there is none or it is not usable.
-/// No memory.
+/// What a step `Given` proves: the given line at the place, from 0. None where there is none, or it is
+/// not usable. No memory.
 pub(crate) fn given_step<'a>(basis: &Basis<'a>, place: u64) -> Option<Known<'a>>
     requires { IsBasis basis.now }
     ensures { meant result ≡ given_line (premises basis.now) place }
@@ -22,7 +22,8 @@ pub(crate) fn given_step<'a>(basis: &Basis<'a>, place: u64) -> Option<Known<'a>>
     }
 }
 
-/// The given line at the place, or None where there is none or it is not usable. No memory.
+/// The given line at the place, from 0, or None where there is none or it is not usable. `usable` says
+/// of each given line whether it is. No memory.
 pub(crate) fn usable_line<'l>(given: &'l [Line], usable: &[bool], place: u64) -> Option<&'l Line>
     requires { length given.now ≡ length usable.now }
     ensures { (p : Premises) → p.given ≡ given.now → p.usable ≡ usable.now

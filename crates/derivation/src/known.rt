@@ -21,14 +21,14 @@ pub(crate) enum Known<'a> {
 }
 
 impl<'a> Known<'a> {
-    /// What a step proved that made this line.
+    /// What a step proved that made this line, put behind a pointer.
     pub(crate) fn of_line(alloc: Global, line: Line) -> Result<Known<'a>, OutOfMemory>
         ensures { IfOk result (λ known. meaning known ≡ Proved.Line line) }
     {
         Ok(Known::Line(Box::new(alloc, line)?))
     }
 
-    /// What a step proved that made this box.
+    /// What a step proved that made this box, put behind a pointer.
     pub(crate) fn of_box(alloc: Global, code_box: CodeBox) -> Result<Known<'a>, OutOfMemory>
         ensures { IfOk result (λ known. meaning known ≡ Proved.Box code_box) }
     {
@@ -70,7 +70,8 @@ impl<'a> Known<'a> {
     }
 }
 
-/// The line that was proved at a place, or None where there is none or a box was proved. No memory.
+/// The line that the step at a place, from 0, proved. None where no earlier step has the place, or that
+/// one proved a box. No memory.
 pub(crate) fn line_at<'k, 'a>(known: &'k [Known<'a>], place: u64) -> Option<&'k Line>
     ensures some { IfSome result (λ line. slice_get (map meaning known.now) place ≡ Some (Proved.Line line.now)) }
     ensures none { IfNone result (as_line (slice_get (map meaning known.now) place) ≡ None) }
@@ -82,7 +83,8 @@ pub(crate) fn line_at<'k, 'a>(known: &'k [Known<'a>], place: u64) -> Option<&'k 
     }
 }
 
-/// The box that was proved at a place, or None where there is none or a line was proved. No memory.
+/// The box that the step at a place, from 0, proved. None where no earlier step has the place, or that
+/// one proved a line. No memory.
 pub(crate) fn box_at<'k, 'a>(known: &'k [Known<'a>], place: u64) -> Option<&'k CodeBox>
     ensures some { IfSome result (λ b. slice_get (map meaning known.now) place ≡ Some (Proved.Box b.now)) }
     ensures none { IfNone result (as_box (slice_get (map meaning known.now) place) ≡ None) }
@@ -94,7 +96,8 @@ pub(crate) fn box_at<'k, 'a>(known: &'k [Known<'a>], place: u64) -> Option<&'k C
     }
 }
 
-// What the step at a place proved, or None where no earlier step has the place. No memory.
+// What the step at a place, from 0, proved, a line or a box. None where no earlier step has the place.
+// No memory.
 fn known_at<'k, 'a>(known: &'k [Known<'a>], place: u64) -> Option<&'k Known<'a>>
     ensures some { IfSome result (λ one. slice_get (map meaning known.now) place ≡ Some (meaning one.now)) }
     ensures none { IfNone result (slice_get (map meaning known.now) place ≡ None) }

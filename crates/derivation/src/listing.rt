@@ -52,8 +52,8 @@ pub fn line_list(
     Ok(lines)
 }
 
-// The line of a step, from those of the steps before it, or None where the step is not valid or makes a
-// box.
+// The line that a step proves, from those of the steps before it, or None where the step is not valid
+// or makes a box. A table of a proof has lines alone.
 fn line_of(
     alloc: Global,
     given: &[Line],
@@ -95,8 +95,9 @@ fn given_copy(
     }
 }
 
-// The combination of the lines of the steps at two places. None where one of the places is not that of an
-// earlier step, or the lines may not be combined so, as `combined_lines` tells.
+// The combination of the lines that the steps at the places `a` and `b` proved. None where one of the
+// places is not that of an earlier step, or the lines may not be combined so, as `combined_lines`
+// tells.
 fn combination(
     alloc: Global,
     lines: &[Line],

@@ -11,7 +11,8 @@ use edit_model::{Row, Survey, Value};
 use foundation::OutOfMemory;
 use std::alloc::Global;
 
-/// The record without values, for a refutation: its check asks for some record, of which it keeps no field.
+/// The record of the survey without a value at any field. The check of a refutation asks for some
+/// record, of which it keeps no field; it is given this one.
 pub fn record_without_values(alloc: Global, survey: &Survey) -> Result<Row, OutOfMemory>
     ensures values { IfOk result (λ row. row ≡ no_values survey.now.fields) }
     ensures row { IfOk result (λ row. IsRow survey.now.fields row) }

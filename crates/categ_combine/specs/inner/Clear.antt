@@ -26,6 +26,6 @@ pub record IsClear (place whole : ℕ) (kept : BoxFrom) (sets : List ℕ) : Type
       → are_subsets (slice_set sets place whole) kept.code_box.sets ≡ false
   pub outside : is_whole_at place whole sets ≡ true → are_subsets kept.code_box.sets sets ≡ false
 
--- each kept box is so beside each later one
+-- each kept box is clear of each later one, as above
 abbrev pub AllClear : ℕ → ℕ → List BoxFrom → List BoxFrom → Type 0
 AllClear place whole kept later = (b : BoxFrom) → IsIn b later → All (λ (k : BoxFrom). IsClear place whole k b.code_box.sets) kept
