@@ -40,7 +40,7 @@ impl From<OutOfMemory> for BoxFault {
 
     ghost from_gives = { λ _ fault. fault ≡ faults.OutOfMemory };
 
-    // Memory that is refused is one of the faults.
+    // Memory that is refused is one of the faults, so that `?` hands it on.
     fn from(_refused: OutOfMemory) -> Self {
         BoxFault::OutOfMemory
     }

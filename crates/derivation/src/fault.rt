@@ -35,7 +35,7 @@ impl From<OutOfMemory> for StepsFault {
 
     ghost from_gives = { λ _ fault. fault ≡ faults.OutOfMemory };
 
-    // Memory that is refused is one of the faults.
+    // Memory that is refused is one of the faults, so that `?` hands it on.
     fn from(_refused: OutOfMemory) -> Self {
         StepsFault::OutOfMemory
     }
@@ -47,7 +47,7 @@ impl From<AllocError> for StepsFault {
 
     ghost from_gives = { λ _ fault. fault ≡ faults.OutOfMemory };
 
-    // Memory that the standard library refuses is one of the faults.
+    // Memory that the standard library refuses is one of the faults, so that `?` hands it on.
     fn from(_refused: AllocError) -> Self {
         StepsFault::OutOfMemory
     }
@@ -59,7 +59,8 @@ impl<T: Drop> From<AllocFailed<T>> for StepsFault {
 
     ghost from_gives = { λ _ fault. fault ≡ faults.OutOfMemory };
 
-    // Memory that is refused is one of the faults. What found no room is dropped.
+    // Memory that is refused is one of the faults, so that `?` hands it on. What found no room is
+    // dropped.
     fn from(_refused: AllocFailed<T>) -> Self {
         StepsFault::OutOfMemory
     }

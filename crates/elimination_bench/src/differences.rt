@@ -31,7 +31,7 @@ pub enum Differences {
 }
 
 impl Differences {
-    /// How many numerical fields there are; after them comes a field of 8 codes.
+    /// How many numerical fields there are. Behind them comes one field of 8 codes.
     pub fn numbers(self) -> usize
         ensures { result ≡ numbers_of self }
     {
@@ -75,8 +75,8 @@ impl Differences {
         Ok(Line::over(shape, sets, factors, constant, Relation::AtLeast))
     }
 
-    // The set of codes, as bits, of a line for which this number is drawn. It is whole (255) for `Plain`,
-    // and never empty.
+    // The set of codes, as bits, of a line for which this number is drawn. It is whole (255) for
+    // `Plain`, and for `Coded` never empty.
     fn code_set(self, draw: u32) -> u64
         ensures { result ≡ set_of self draw }
     {
@@ -119,8 +119,8 @@ fn upper_field(numbers: usize, place: usize) -> usize
     }
 }
 
-// The factors, of `numbers` fields, of the difference of the fields `i` and `j`: 1 for `i`, -1 for `j`,
-// and 0 elsewhere.
+// The factors, one for each of `numbers` fields, of the difference of the fields `i` and `j`, which are
+// numbered from 0. They are 1 for `i`, -1 for `j`, and 0 elsewhere.
 fn difference(alloc: Global, numbers: usize, i: usize, j: usize) -> Result<Vec<i128>, OutOfMemory>
     requires i { i < numbers }
     requires j { j < numbers }
@@ -184,7 +184,7 @@ fn code_field(alloc: Global) -> Result<Field, OutOfMemory>
     })
 }
 
-// The name that is this one letter.
+// The name that is this one letter, which is in form as a name.
 fn name_of(letter: u8) -> Name
     ensures { result ≡ letter ∷ [] }
 {

@@ -79,8 +79,8 @@ fn take_step(
     Ok(next)
 }
 
-// Why a bench tells nothing of a system that is not made: a number left the range, wherever that was, or
-// memory was refused.
+// The fault that the bench tells where a system is not made. Either a number left the range, wherever
+// it was, or memory was refused.
 fn system_fault(fault: SystemFault) -> Fault
     ensures { result ≡ system_fault_of fault }
 {
@@ -90,8 +90,8 @@ fn system_fault(fault: SystemFault) -> Fault
     }
 }
 
-// Why a bench tells nothing of a step that is not made: a number left the range, wherever that was, or
-// memory was refused.
+// The fault that the bench tells where a step is not made. Either a number left the range, wherever it
+// was, or memory was refused.
 fn step_fault(fault: StepFault) -> Fault
     ensures { result ≡ step_fault_of fault }
 {
@@ -134,7 +134,8 @@ fn counted_system<L: Ledger>(
     fold_system(alloc, edits, fields, &mut steps)
 }
 
-// The set of the first `count` fields, whose numbers are 0 to `count - 1`.
+// The set of the first `count` fields, whose numbers are 0 to `count - 1`: those that `fold`
+// eliminates.
 fn first_fields(count: u32) -> FieldSet
     requires { count ≤ 64 }
     ensures only { (f : ℕ) → has_number result f ≡ true → f < count }

@@ -109,7 +109,8 @@ fn lines_of(alloc: Global, edits: &Edits) -> Result<Vec<Line>, OutOfMemory>
     Ok(lines)
 }
 
-// A record without a value at any field, so that the steps can build on lines alone.
+// A record of the survey without a value at any field. The checker asks for a record; of this one no
+// field is kept, so that the steps build on lines alone.
 fn unknown_row(alloc: Global, survey: &Survey) -> Result<Row, OutOfMemory>
     ensures row { IfOk result (λ row. IsRow survey.now.fields row) }
     ensures unknown { IfOk result (λ row. row ≡ replicate (length survey.now.fields) Bad) }

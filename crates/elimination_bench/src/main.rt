@@ -22,15 +22,16 @@ use words::Task;
 // The words that are in form.
 const USAGE: &str = "usage: elimination_bench fold|pairs FIELDS [codes] | steps COUNT [sums]";
 
-// Prints what the words ask for, or why nothing is told, and ends with the status that says so.
+// Prints what the words of the command line ask for, or why nothing is told, and ends with the status
+// that says so.
 fn main(rt: HostRuntime) -> ExitCode {
     let alloc = rt.alloc();
     let told = asked_text(&rt, alloc);
     leave(alloc, &mut OutPrinter::new(rt), USAGE, told)
 }
 
-// What is printed of the words after the program's name, or why nothing is. The faults are those of
-// `text_of`.
+// What is printed of the words of the command line behind the program's name, or why nothing is. The
+// faults are those of `text_of`, and want of memory for the words.
 fn asked_text<R: std::rt::Env + AllocGlobal>(rt: &R, alloc: Global) -> Result<String, Fault> {
     let words = words_of(alloc, env::args(rt))?;
     text_of(alloc, &words)

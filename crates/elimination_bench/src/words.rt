@@ -43,8 +43,8 @@ pub fn task_of(words: &[String]) -> Option<Task>
     }
 }
 
-// The task of the verb over these generated edits. None where the verb is another, the count is no number
-// or more than there are fields, or `pairs` is asked of no field.
+// The task of the verb, `fold` or `pairs`, over these generated edits. None where the verb is another,
+// the count is no number or more than there are fields, or `pairs` is asked of no field.
 fn elimination_task(verb: &str, system: Differences, count: &str) -> Option<Task>
     ensures exact { result ≡ served verb.now system (number_in count.now 0 (numbers_of system)) }
     ensures served { IfSome result IsServed }
@@ -57,8 +57,8 @@ fn elimination_task(verb: &str, system: Differences, count: &str) -> Option<Task
     }
 }
 
-// The check of a list of as many steps as the text writes. None where it writes no number, or more than
-// `MOST_STEPS`.
+// The task of checking a list of as many steps as the text says. None where it is no number, or one
+// above `MOST_STEPS`.
 fn steps_task(listing: Listing, count: &str) -> Option<Task>
     ensures exact { result ≡ listed listing (number_in count.now 0 (10 ^ 7)) }
     ensures served { IfSome result IsServed }
@@ -69,8 +69,8 @@ fn steps_task(listing: Listing, count: &str) -> Option<Task>
     }
 }
 
-// The number that the text writes. None where it writes none, or more than these edits have numerical
-// fields.
+// The number of fields to eliminate that the text says. None where it is no number, or more than these
+// edits have numerical fields.
 fn count_within(text: &str, system: Differences) -> Option<u32>
     ensures { result ≡ number_in text.now 0 (numbers_of system) }
 {

@@ -113,8 +113,8 @@ fn changed_told(
 }
 
 // The boxes after the change of these three words, or None where it is a cover that would look at too
-// many pairs. `CallFault::Words` where the words are no change, `Field` where there is no such field or
-// code, and `Number` where there is no such box.
+// many pairs. `CallFault::Words` where the words are no change. `CallFault::Field` where there is no
+// such field or code, and `CallFault::Number` where there is no such box.
 fn change_boxes(
     alloc: Global,
     survey: &Survey,
@@ -140,8 +140,9 @@ fn change_boxes(
     }
 }
 
-// The boxes at the places `first` and `second`, from 0; never None. `CallFault::Number` where there is
-// no such box. It is not known that the two lie apart, so the slower calls treat them next.
+// The boxes at the places `first` and `second`, from 0. It is never None, which other changes may
+// answer. `CallFault::Number` where there is no such box. It is not known that the two lie apart, so
+// the slower calls treat them next.
 fn pick_change(
     alloc: Global,
     boxes: &Boxes,
@@ -163,8 +164,9 @@ fn pick_change(
     }))
 }
 
-// The boxes that are left when the field keeps the code of this name; never None. They lie apart,
-// whether the boxes before did or not. `CallFault::Field` where the field has no such code.
+// The boxes that are left when the field keeps the code of this name. It is never None, which other
+// changes may answer. They lie apart, whether the boxes before did or not. `CallFault::Field` where the
+// field has no such code.
 fn fix_change(
     alloc: Global,
     survey: &Survey,
@@ -190,8 +192,9 @@ fn fix_change(
     }))
 }
 
-// What the code of the field leaves of the boxes, by the faster call where it is known that they lie
-// apart. `HaveCode` says that the boxes are over fields of which this one has the code.
+// What is left of the boxes where the field keeps the code. It is found by the faster call where it is
+// known that they lie apart. `HaveCode` says that the boxes are over fields of which this one has the
+// code.
 fn fix_boxes(
     alloc: Global,
     boxes: &Boxes,
@@ -209,8 +212,9 @@ fn fix_boxes(
     }
 }
 
-// The boxes when the field is eliminated, or None where that would look at more than `most` pairs.
-// `CallFault::Field` where the field is numerical, since it has no code 0.
+// The boxes that are left when the field is eliminated, and how many pairs that looked at. None where
+// it would look at more than `most` pairs. `CallFault::Field` where the field is numerical, since it
+// has no code 0.
 fn cover_change(
     alloc: Global,
     survey: &Survey,
@@ -235,9 +239,9 @@ fn cover_change(
     }
 }
 
-// What the elimination of the field from the boxes gives, by the faster call where it is known that they
-// lie apart. `Covered::Passed` where it would look at more than `most` pairs. `HaveCodeField` says that
-// the boxes are over fields of which this one is categorical.
+// What the elimination of the field from the boxes gives, by the faster call where it is known that
+// they lie apart. It is `Covered::Passed` where it would look at more than `most` pairs.
+// `HaveCodeField` says that the boxes are over fields of which this one is categorical.
 fn cover_boxes(alloc: Global, boxes: &Boxes, field: u32, most: u64) -> Result<Covered, OutOfMemory>
     requires field { HaveCodeField boxes.now.list.items field }
     requires apart { boxes.now.are_apart ≡ true → LieApart boxes.now.list.items }
@@ -249,14 +253,16 @@ fn cover_boxes(alloc: Global, boxes: &Boxes, field: u32, most: u64) -> Result<Co
     }
 }
 
-// Whether the field has the code of this number, from 0. A numerical field has none.
+// Whether the field has the code of this number, from 0. A numerical field has none, so that code 0
+// tells whether a field is categorical.
 fn has_code(shape: &Shape, field: u32, code: u8) -> bool
     ensures { result ≡ true → code < size_of (domains shape.now) field }
 {
     code < shape.size_of(field)
 }
 
-// Whether all boxes are over these fields; the calls on boxes require it.
+// Whether all boxes are over these fields, as those of the survey's own lines are. The calls on boxes
+// require it.
 fn are_over(shape: Shape, boxes: &[BoxFrom]) -> bool
     ensures { result ≡ true → AreBoxesOver (domains shape) boxes.now }
 {
@@ -268,8 +274,8 @@ fn are_over(shape: Shape, boxes: &[BoxFrom]) -> bool
     true
 }
 
-// The boxes as texts, each behind where it comes from. Then comes the number of pairs, where the last
-// change was an elimination.
+// What is told of the boxes: a line of text for each, behind where it comes from. Then comes the number
+// of pairs, where the last change was an elimination.
 fn box_texts(alloc: Global, survey: &Survey, boxes: &Boxes) -> Result<Texts, CallFault> {
     let mut texts = Vec::new(alloc);
     for each in &boxes.list {

@@ -55,28 +55,28 @@ impl fmt::Display for CallFault {
 impl error::Error for CallFault {}
 
 impl From<OutOfMemory> for CallFault {
-    // A call below was refused memory.
+    // A call below was refused memory, and `?` hands it on.
     fn from(_refused: OutOfMemory) -> Self {
         CallFault::OutOfMemory
     }
 }
 
 impl From<AllocError> for CallFault {
-    // Memory was refused.
+    // The standard library was refused memory, and `?` hands it on.
     fn from(_refused: AllocError) -> Self {
         CallFault::OutOfMemory
     }
 }
 
 impl<T: Drop> From<AllocFailed<T>> for CallFault {
-    // A list was refused memory to grow.
+    // A list was refused memory to grow, and `?` hands it on. What found no room is dropped.
     fn from(_refused: AllocFailed<T>) -> Self {
         CallFault::OutOfMemory
     }
 }
 
 impl From<RulesFault> for CallFault {
-    // The rule file has no reading, or memory for it was refused.
+    // The rule file has no reading, which is told with its line, from 1; or memory for it was refused.
     fn from(fault: RulesFault) -> Self {
         match fault {
             RulesFault::At { line, kind } => CallFault::Rules { line, kind },
@@ -86,7 +86,8 @@ impl From<RulesFault> for CallFault {
 }
 
 impl From<ProofFault> for CallFault {
-    // The file of steps, or of a tree, has no reading, or memory for it was refused.
+    // The file of steps, or of a tree, has no reading, which is told with its line; or memory for it was
+    // refused.
     fn from(fault: ProofFault) -> Self {
         match fault {
             ProofFault::At { line } => CallFault::Steps { line },

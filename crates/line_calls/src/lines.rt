@@ -35,8 +35,8 @@ pub fn negations_told(alloc: Global, survey: &Survey) -> Result<Texts, CallFault
     Ok(texts)
 }
 
-// Puts the lines of the negation of a line last, behind its number. An equality has no negation of lines,
-// and `none` is told. `place` is the line's, from 0.
+// Appends the lines of the negation of a line, each behind the number of that line. Of an equality it
+// appends `none`, since its negation is no list of lines. `place` is the line's, from 0.
 fn push_negation(
     alloc: Global,
     survey: &Survey,
@@ -102,7 +102,8 @@ fn sum_told(
     Ok(text)
 }
 
-// Appends at which field a sum leaves the range, such as ` overflow at Costs`.
+// Appends at which field a line's sum leaves the range, such as ` overflow at Costs`.
+// `CallFault::Field` where the survey has no such field.
 fn push_overflow(
     survey: &Survey,
     overflow: LineOverflow,

@@ -47,7 +47,8 @@ fn value_of(field: &Field, word: &str) -> Result<Value, CallFault> {
     }
 }
 
-// Whether the field may hold the value. A missing value fits each.
+// Whether the field may hold the value: a number or a code of the field, by its kind. A missing value
+// fits each field.
 fn fits(field: &Field, value: &Value) -> bool
     ensures { result ≡ true → IsOfKind field.now.kind value.now }
 {

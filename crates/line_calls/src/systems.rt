@@ -53,9 +53,10 @@ pub fn pairs_told(
     }
 }
 
-// What the source that keeps no system answers for the set of these fields. The inner `Err` tells where
-// a number leaves the range, or that memory was refused. `blank` is one of the ledger `L` (`name`,
-// `parts`), and starts a counter of steps for this call, which nobody reads.
+// The derived system without these fields, from the source that keeps none. The inner `Err` tells where
+// a number leaves the range, or that memory was refused. `CallFault::Field` where a name is none of a
+// numerical field. `blank` is one of the ledger `L` (`name`, `parts`), and starts a counter of steps
+// for this call, which nobody reads.
 fn system_of<L: Ledger>(
     alloc: Global,
     survey: &Survey,
@@ -96,7 +97,7 @@ fn with_number(survey: &Survey, set: FieldSet, field: u32) -> Result<FieldSet, C
     Ok(set.with(field))
 }
 
-// Whether the field is one of `fields`.
+// Whether the field is one of `fields`, the numerical ones of the survey.
 fn has_field(fields: &[u32], field: u32) -> bool
     ensures { result ≡ true → has_field fields.now field ≡ true }
 {
@@ -108,7 +109,8 @@ fn has_field(fields: &[u32], field: u32) -> bool
     false
 }
 
-// The lines of a system, each behind where it comes from, such as `combine 1 1 2 3 1: Costs >= 0`.
+// What is told of a system: its lines, each behind where it comes from, such as `combine 1 1 2 3 1:
+// Costs >= 0`.
 fn derived_told(alloc: Global, survey: &Survey, lines: &[Derived]) -> Result<Texts, CallFault> {
     let mut texts = Vec::new(alloc);
     for derived in lines {

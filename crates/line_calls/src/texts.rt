@@ -11,8 +11,8 @@ use std::alloc::Global;
 /// The lines that a call tells, without their line feeds.
 pub type Texts = Vec<Vec<u8>>;
 
-/// The text of a line over the survey's fields, behind `head`. A line over other fields is refused
-/// (`CallFault::Shape`).
+/// What is told of a line over the survey's fields: its text, behind `head`. A line over other fields
+/// is refused (`CallFault::Shape`).
 pub fn told_line(
     alloc: Global,
     survey: &Survey,
@@ -36,7 +36,9 @@ pub fn name_of(survey: &Survey, field: u32) -> Result<&[u8], CallFault> {
     }
 }
 
-/// Appends where a number stands in a line: ` at constant`, or ` at ` and the name of the field.
+/// Appends the place in a combination of two lines at which a number leaves the range: ` at constant`,
+/// or ` at ` and the name of the field whose factor it is. `CallFault::Field` where the survey has no
+/// such field.
 pub fn push_place(text: &mut Vec<u8>, survey: &Survey, place: Place) -> Result<(), CallFault> {
     text.extend_from_slice(b" at ")?;
     match place {
@@ -46,7 +48,7 @@ pub fn push_place(text: &mut Vec<u8>, survey: &Survey, place: Place) -> Result<(
     Ok(())
 }
 
-/// The text as the only line that is told. Want of memory is the only fault.
+/// What a call tells that tells this one line of text. Want of memory is the only fault.
 pub fn only_line(alloc: Global, text: Vec<u8>) -> Result<Texts, CallFault> {
     let mut texts = Vec::new(alloc);
     texts.push(text)?;

@@ -79,7 +79,7 @@ impl From<OutOfMemory> for StepFault {
 
     ghost from_gives = { λ _ fault. fault ≡ faults.OutOfMemory };
 
-    // Memory that is refused is one of the faults.
+    // Memory that is refused is one of the faults, so that `?` hands it on.
     fn from(_refused: OutOfMemory) -> Self {
         StepFault::OutOfMemory
     }
@@ -91,7 +91,7 @@ impl From<OutOfMemory> for SystemFault {
 
     ghost from_gives = { λ _ fault. fault ≡ faults.OutOfMemory };
 
-    // Memory that is refused is one of the faults.
+    // Memory that is refused is one of the faults, so that `?` hands it on.
     fn from(_refused: OutOfMemory) -> Self {
         SystemFault::OutOfMemory
     }
@@ -103,7 +103,8 @@ impl<T: Drop> From<AllocFailed<T>> for StepFault {
 
     ghost from_gives = { λ _ fault. fault ≡ faults.OutOfMemory };
 
-    // Memory that is refused is one of the faults. What found no room is dropped.
+    // Memory that is refused is one of the faults, so that `?` hands it on. What found no room is
+    // dropped.
     fn from(_refused: AllocFailed<T>) -> Self {
         StepFault::OutOfMemory
     }

@@ -83,7 +83,8 @@ fn all_but(alloc: Global, count: usize, without: &[&str]) -> Result<Vec<bool>, C
     Ok(usable)
 }
 
-// The places, from 0, that these numbers from 1 name. The faults are those of `place_in`.
+// The places, from 0, of the lines that these numbers, from 1, name. The faults are those of
+// `place_in`.
 fn places_of(alloc: Global, numbers: &[&str]) -> Result<Vec<usize>, CallFault> {
     let mut places = Vec::new(alloc);
     for number in numbers {
@@ -92,7 +93,7 @@ fn places_of(alloc: Global, numbers: &[&str]) -> Result<Vec<usize>, CallFault> {
     Ok(places)
 }
 
-// Whether the place is one of these.
+// Whether the place is one of these, so that its line is left out.
 fn has(places: &[usize], place: usize) -> bool {
     places.contains(&place)
 }

@@ -16,8 +16,9 @@ const BEFORE_STEPS: u64 = 4;
 
 const BEFORE_TREE: u64 = 4;
 
-/// The steps that the bytes spell, one a line: they are read as those of a dropped line.
-/// `CallFault::Steps` tells the line, from 1, that has no reading.
+/// The steps that the bytes spell, one a line. They are read as those of a dropped line in a proof.
+/// `CallFault::Steps` tells the line, from 1, that has no reading; line 0 stands for what is put before
+/// the bytes.
 pub fn steps_of(alloc: Global, bytes: &[u8]) -> Result<Sequence<Step>, CallFault> {
     let count = bytes.iter().filter(|byte| **byte == b'\n').count();
     let head = format!(in alloc; "{LIMITS}lines 1\ndrop {count}\n")?;
@@ -50,8 +51,8 @@ pub fn tree_of(alloc: Global, bytes: &[u8]) -> Result<(Cert, Option<u64>), CallF
     }
 }
 
-// The proof whose lines are `head`, the bytes, and `tail`. A fault is told by its line in the bytes:
-// `before` is how many lines the head has.
+// The proof whose lines are `head`, the bytes, and `tail`. A fault is told by its line in the bytes,
+// from 1. One before them is told as line 0. `before` is how many lines the head has.
 fn read_framed(
     alloc: Global,
     head: String,

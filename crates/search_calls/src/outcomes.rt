@@ -65,8 +65,8 @@ fn outcome_told(alloc: Global, outcome: Outcome) -> Result<Texts, CallFault> {
     }
 }
 
-// The lines that a proof file has for an outcome. A proof of this one record is written, and the lines
-// around the record's are left out.
+// The lines that a proof file has for an outcome, without their line feeds. A proof of this one record
+// is written, and the lines around the record's are left out.
 fn row_lines(alloc: Global, outcome: Outcome) -> Result<Texts, CallFault> {
     let mut rows = Vec::new(alloc);
     rows.push(RowProof {
@@ -88,7 +88,8 @@ fn row_lines(alloc: Global, outcome: Outcome) -> Result<Texts, CallFault> {
     Ok(lines.into_iter().take(count).skip(BEFORE).collect(alloc)?)
 }
 
-/// What the search finds of a record with at most this much work, by these edits.
+/// What the search by these edits finds of a record with at most the work `budget`. It is a change, or
+/// that there is none. Or the search ended before, by the budget or the range of numbers.
 pub fn outcome_of(
     alloc: Global,
     survey: &Survey,
@@ -103,8 +104,8 @@ pub fn outcome_of(
     counted_outcome::<Brand>(alloc, survey, edits, row, budget, Blank::new(1))
 }
 
-// What the search finds of a record with at most this much work. `blank` is one of the ledger `L`
-// (`name`, `parts`), and starts a counter of steps for this call, which nobody reads.
+// What [`outcome_of`] answers. `blank` is one of the ledger `L` (`name`, `parts`), and starts a counter
+// of steps for this call, which nobody reads.
 fn counted_outcome<L: Ledger>(
     alloc: Global,
     survey: &Survey,

@@ -97,7 +97,7 @@ pub fn values_from(
     values_told(alloc, survey, row, Some(&donor))
 }
 
-// Whether the record has no value at some field: then it is no donor.
+// Whether the record has no value at some field: a donor needs one at each.
 fn has_bad(row: &Row) -> bool
     ensures { result ≡ list_any is_bad row.now }
 {
@@ -143,9 +143,9 @@ fn changed_in(
     }
 }
 
-// What the record is given in the place of these fields, from the donor, if there is one. The fault says
-// where a number leaves the range. `blank` is one of the ledger `L` (`name`, `parts`), and starts a
-// counter of steps for this call, which nobody reads.
+// What the record is given in the place of the fields `changed`, from the donor, if there is one. The
+// fault says where a number leaves the range. `blank` is one of the ledger `L` (`name`, `parts`), and
+// starts a counter of steps for this call, which nobody reads.
 fn counted_gift<L: Ledger>(
     alloc: Global,
     survey: &Survey,
