@@ -1,6 +1,8 @@
-//! The covers of a field's codes, made code by code: intersections of one box for each code, whole at the
-//! field. Whatever code the field has, one of these boxes forbids what a cover has. Below, `spot` is the
-//! field, and `at` the field with one of its codes; `next` are the covers with one code more.
+//! The covers of a field's codes, made code by code: intersections of one box for each code, whole at
+//! the field. Whatever code the field has, one of these boxes forbids what a cover has. Below, `spot`
+//! is the field, and `at` the field with one of its codes; `next` are the covers with one code more. A
+//! box is whole at a field where it has all its codes there. Places are those of the given boxes, from
+//! 0.
 ghost use Rattle.std.specs.Prelude.{◌≡◌, ◌++◌, [], ◌∷◌, true, IfOk, OnOk};
 ghost use Rattle.std.specs.List.{fold};
 ghost use Rattle.edit_line.specs.Sets.{AreSets, none_is_empty};

@@ -1,5 +1,7 @@
-//! What a record's boxes forbid of the other fields where a categorical field keeps its code. In
-//! contracts, `ForShape` speaks of the shape that the boxes are over. `LieApart` says that none lies
+//! What a record's boxes forbid of the other fields where a categorical field keeps its code. A box is
+//! whole at a field where it has all its codes there. Places are those of the given boxes, from 0.
+//!
+//! In contracts, `ForShape` speaks of the shape that the boxes are over. `LieApart` says that none lies
 //! inside another, and `IsClear` when a kept box need not be compared with a later one.
 ghost use Rattle.std.specs.Prelude.{◌≡◌, ◌&&◌, ◌++◌, [], ◌∷◌, All, IfOk, OnOk, if◌then◌else◌, not, slice_set, true};
 ghost use Rattle.std.specs.List.{filter, fold, list_any};

@@ -1,7 +1,10 @@
 //! The elimination of one categorical field from boxes: what they forbid of the other fields, whatever
-//! code the field has. In contracts, `HaveCodeField` says that the boxes are over one survey's fields, and
-//! the field is a categorical one. `ForShape` speaks of that survey's shape, and `IsDone` of the answer
-//! `Done`. `cover_count` and `cover_pairs` are the pairs of a cover and a box that are looked at.
+//! code the field has. A box is whole at a field where it has all its codes there. Places are those of
+//! the given boxes, from 0.
+//!
+//! In contracts, `HaveCodeField` says that the boxes are over one survey's fields, and the field is a
+//! categorical one. `ForShape` speaks of that survey's shape, and `IsDone` of the answer `Done`.
+//! `cover_count` and `cover_pairs` are the pairs of a cover and a box that are looked at.
 ghost use Rattle.std.specs.Prelude.{◌≡◌, ◌<◌, ◌≤◌, ◌*◌, ◌↔◌, ◌++◌, IfNone, IfOk, IfSome, OnOk, length, true};
 ghost use Rattle.std.specs.List.{filter, fold};
 ghost use Rattle.edit_line.specs.Boxes.{IsBox};

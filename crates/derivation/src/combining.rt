@@ -1,6 +1,8 @@
-//! The step that combines two lines: it adds up multiples of both and divides the sum. In contracts,
-//! `meant` has what a step proved, and `lined` a line as what was proved, None where there is none.
-//! `proved_by` has what a step proves by the definition.
+//! The step that combines two lines: it adds up multiples of both and divides the sum. A step that
+//! proves nothing, told as None, is not valid.
+//!
+//! In contracts, `meant` has what a step proved, and `lined` a line as what was proved, None where
+//! there is none. `proved_by` has what a step proves by the definition.
 ghost use Rattle.std.specs.Prelude.{◌≡◌, ◌&&◌, ◌<ℤ◌, IfOk, int_lt, int_rem, map, pos};
 ghost use Rattle.std.specs.List.{list_all};
 ghost use Rattle.std.specs.Ordering.{int_eq};

@@ -1,7 +1,9 @@
 //! The step that makes a box from one box for each code of a field. Whatever code the field has, one of
-//! these boxes forbids what they have in common on the other fields. In contracts, `meant` has what a step
-//! proved, and `premises` what it may build on. `AreWithin` says that no set has a code that its field has
-//! not. `IsBasis` says that a basis's parts fit.
+//! these boxes forbids what they have in common on the other fields. A step that proves nothing, told
+//! as None, is not valid. A box is whole at a field where it has all its codes there.
+//!
+//! In contracts, `meant` has what a step proved, and `premises` what it may build on. `AreWithin` says
+//! that no set has a code that its field has not. `IsBasis` says that a basis's parts fit.
 ghost use Rattle.std.specs.Prelude.{◌≡◌, ◌≤◌, IfOk, IfSome, List, Some, length, map, option_map};
 ghost use Rattle.edit_line.specs.inner.SetBounds.{AreWithin};
 ghost use Rattle.edit_line.specs.Sets.{AreSets};

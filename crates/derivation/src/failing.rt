@@ -1,6 +1,8 @@
 //! The step that makes a box of a line. Where the line's linear part is false at the kept values, the
-//! codes must not all be in its sets. In contracts, `meant` has what a step proved, and `premises` what it
-//! may build on. `IsBasis` says that a basis's parts fit.
+//! codes must not all be in its sets. A step that proves nothing, told as None, is not valid.
+//!
+//! In contracts, `meant` has what a step proved, and `premises` what it may build on. `IsBasis` says
+//! that a basis's parts fit.
 ghost use Rattle.std.specs.Prelude.{◌≡◌, IfOk, map};
 ghost use Rattle.edit_model.specs.Rows.{IsRow};
 ghost use Rattle.edit_line.specs.Shapes.{shape_of};

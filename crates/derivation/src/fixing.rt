@@ -1,6 +1,9 @@
 //! The step that makes a box whole at a kept field. As the field keeps its code, only the codes of the
-//! other fields decide whether the box forbids them. In contracts, `meant` has what a step proved, and
-//! `premises` what it may build on. `IsBasis` says that a basis's parts fit.
+//! other fields decide whether the box forbids them. A step that proves nothing, told as None, is not
+//! valid. A box is whole at a field where it has all its codes there.
+//!
+//! In contracts, `meant` has what a step proved, and `premises` what it may build on. `IsBasis` says
+//! that a basis's parts fit.
 ghost use Rattle.std.specs.Prelude.{◌≡◌, ◌<◌, IfOk, Some, map, true};
 ghost use Rattle.edit_model.specs.FieldSets.{has_number};
 ghost use Rattle.edit_model.specs.Rows.{value_of};

@@ -58,8 +58,9 @@ impl Kept {
         self.lines
     }
 
-    /// Takes the line in: if it always holds, or a kept line subsumes it, it is dropped; else the kept
-    /// lines that it subsumes are, and it comes last. After a refusal the kept lines are as before.
+    /// Takes the line in. It is dropped where it always holds, or where a kept line subsumes it. Else
+    /// the kept lines that it subsumes are dropped, and it comes last. After a refusal the kept lines
+    /// are as before.
     pub fn take(&mut self, new: Derived) -> Result<(), OutOfMemory>
         ensures taken { OnOk result (self.new ≡ with_derived self.old new) }
         ensures refused { OnErr result (self.new ≡ self.old) }

@@ -1,5 +1,6 @@
-//! The sum of the multiples of two lines' numbers, in range throughout. Elimination forms it for each pair
-//! of lines that it combines, so the cheap cases come first.
+//! The sum of the multiples of two lines' numbers, in range throughout. Elimination forms it for each
+//! pair of lines that it combines, so the cheap cases come first. A number is in range where its
+//! absolute value is at most 2^127 - 1.
 ghost use Rattle.std.specs.Prelude.{◌≡◌, ◌+ℤ◌, ◌*ℤ◌, Some, None, All, length, if◌then◌else◌};
 ghost use Rattle.fraction128.specs.Range.{InRange};
 ghost use Rattle.edit_line.specs.Combinations.{combined, first_overflow, in_range, sum_fits};

@@ -16,9 +16,10 @@ use foundation::OutOfMemory;
 use std::alloc::Global;
 
 impl Line {
-    /// The negation of a line that is no equality, as lines: the negative of the sum is above 0, or at least
-    /// 0 where the line's is to be above it; and for each set that is not whole, the field has no code
-    /// outside it. At a point with codes of their fields these hold exactly where the line does not.
+    /// The negation of a line that is no equality, as lines. By the first, the negative of the sum is
+    /// above 0, or at least 0 where the line's sum has to be above it. By the others, one for each set
+    /// that is not whole, the field has no code outside the set. At a point with codes of their fields
+    /// these all hold exactly where the line does not.
     pub fn negation(&self, alloc: Global) -> Result<Vec<Line>, OutOfMemory>
         requires { self.now.relation ≢ Equal }
         ensures exact { IfOk result (λ negation. negation.items ≡ negation_of self.now) }

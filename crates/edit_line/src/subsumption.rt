@@ -41,8 +41,8 @@ fn has_no_factor(line: &Line) -> bool
     line.factors().iter().all(|factor| *factor == 0)
 }
 
-// Whether `a` is as tight as `b`, for the same factors. Its constant is less and `b` is no equality, or the
-// constants are equal and `a`'s relation implies `b`'s.
+// Whether `a` asks at least as much as `b`, where both have the same factors. Its constant is less and
+// `b` is no equality, or the constants are equal and `a`'s relation implies `b`'s.
 fn is_tighter(a: &Line, b: &Line) -> bool
     ensures { result ≡ is_tighter a.now b.now }
 {

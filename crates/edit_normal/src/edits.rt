@@ -22,7 +22,7 @@ pub fn rule_edits(alloc: Global, survey: &Survey) -> Result<Edits, OutOfMemory>
     Ok(edits)
 }
 
-// The lines, each with its place, from 0, as its number in the place of its rule's. They are at most
+// The lines, each numbered by its place, from 0, in the place of its rule's number. They are at most
 // 1000: two for each of 500 rules.
 fn number_lines(alloc: Global, rule_lines: Vec<RuleLine>) -> Result<Vec<(u32, Line)>, OutOfMemory>
     requires { length rule_lines.items ≤ 1000 }

@@ -1,4 +1,7 @@
-//! One step of elimination: from a list of lines those that are left without one numerical field.
+//! One step of elimination: from a list of lines those that are left without one numerical field. A
+//! line bounds the field from below where its factor there is above 0, and from above where it is below
+//! 0. Two lines are opposite where one does this from below and one from above, and all their sets
+//! meet. A line without the field is flat. Places are those in the list that the step takes, from 0.
 //!
 //! In contracts, `Answers` says that a call gives the lines that the definition has, or tells its first
 //! overflow. `TakesIn` says that it takes these lines in among the kept ones. Memory may always be

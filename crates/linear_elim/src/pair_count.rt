@@ -1,5 +1,6 @@
 //! How many pairs of lines one step of elimination combines, counted before the step is taken: the work
-//! that it asks for.
+//! that it asks for. A line bounds the field from below where its factor there is above 0, and from
+//! above where it is below 0. Places are those in the list that the step takes, from 0.
 ghost use Rattle.std.specs.Prelude.{◌≡◌, ◌≤◌, length};
 ghost use Rattle.edit_line.specs.Reductions.{lines_of};
 ghost use Rattle.edit_line.specs.Domains.{domains};

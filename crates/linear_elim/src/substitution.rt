@@ -1,6 +1,8 @@
-//! Substitution of an equality into the other lines in which a field stands. In contracts, `equality_from`
-//! has the first equality with the field and its place. `TakesIn` says that what is made is taken in among
-//! the kept lines.
+//! Substitution of an equality into the other lines in which a field stands. Places are those in the
+//! list that the step takes, from 0.
+//!
+//! In contracts, `equality_from` has the first equality with the field and its place. `TakesIn` says
+//! that what is made is taken in among the kept lines.
 ghost use Rattle.std.specs.Prelude.{◌≡◌, ◌+◌, ◌≤◌, IfNone, IfSome, IsSomeAnd, None, OnOk, Some, if◌then◌else◌, true};
 ghost use Rattle.std.specs.List.{slice_get};
 ghost use Rattle.edit_line.specs.Domains.{domains};
