@@ -94,7 +94,7 @@ fn known_of<'a>(
 {
     let mut known = Vec::with_capacity(alloc, steps.len())?;
     for step in steps {
-        let Some(made) = made_by(alloc, basis, &known, step)? else {
+        let Some(made) = take_step(alloc, basis, &known, step)? else {
             return Err(StepsFault::Bad {
                 place: known.len() as u64,
             });
@@ -106,7 +106,7 @@ fn known_of<'a>(
 
 // What the step proves, a line or a box, from what the earlier steps proved, which `known` has. None
 // where it is not valid.
-fn made_by<'a>(
+fn take_step<'a>(
     alloc: Global,
     basis: &Basis<'a>,
     known: &[Known<'a>],

@@ -41,13 +41,13 @@ pub(crate) fn cover_step<'a>(
     }
     match common_sets(alloc, basis, known, place, parts)? {
         None => Ok(None),
-        Some(common) => covered_at(alloc, basis, common, field, place),
+        Some(common) => cover_at(alloc, basis, common, field, place),
     }
 }
 
 // The box of these sets, made whole at the categorical field, which has this place among the
 // categorical ones, from 0. None where another set of it is empty.
-fn covered_at<'a>(
+fn cover_at<'a>(
     alloc: Global,
     basis: &Basis<'a>,
     mut common: Vec<u64>,

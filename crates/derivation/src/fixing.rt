@@ -41,7 +41,7 @@ pub(crate) fn fix_step<'a>(
     }
     match box_at(known, part) {
         None => Ok(None),
-        Some(code_box) => fixed_at(alloc, basis, code_box, field, place),
+        Some(code_box) => fix_at(alloc, basis, code_box, field, place),
     }
 }
 
@@ -56,7 +56,7 @@ fn is_kept(basis: &Basis, field: u32) -> bool
 
 // The box, made whole at the categorical field, which has this place among the categorical ones, from
 // 0. None where the box has not the record's code there.
-fn fixed_at<'a>(
+fn fix_at<'a>(
     alloc: Global,
     basis: &Basis<'a>,
     code_box: &CodeBox,

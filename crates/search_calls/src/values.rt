@@ -117,7 +117,7 @@ fn gift_of(
     requires donor { IsDonorRecord survey.now (option_copied donor) }
 {
     let edits = edits_of(alloc, survey)?;
-    let changed = changed_in(alloc, survey, &edits, row)?;
+    let changed = changed_fields(alloc, survey, &edits, row)?;
     Ok(counted_gift::<Brand>(alloc, survey, &edits, row, changed, donor, Blank::new(1)))
 }
 
@@ -125,7 +125,7 @@ fn gift_of(
 // exactly at the consistent points (`SayTheRules`). `CallFault::NoChange` where the search finds none.
 // The call of `case_known` computes nothing; it shows that the survey, the edits and the record are a
 // case.
-fn changed_in(
+fn changed_fields(
     alloc: Global,
     survey: &Survey,
     edits: &Arc<Edits>,

@@ -10,8 +10,8 @@ use Rattle.derivation.proofs.Soundness.{AllKnown, more-known}
 use Rattle.derivation.proofs.StepLoop.{over-known, valid-more}
 use Rattle.derivation.proofs.check.known_of.Goals as goal
 
-pub made_by-requires-clause-over : goal.made_by-requires-clause-over
-made_by-requires-clause-over c =
+pub take_step-requires-clause-over : goal.take_step-requires-clause-over
+take_step-requires-clause-over c =
     subst (λ (ks : List Known). AllOver (shape_of c.args.basis.now.survey.now.fields) ks) (sym c.deref.ensures.value)
     (over-known (premises c.args.basis.now) c.loop-step.known.items c.loop-step.invariant.1)
 

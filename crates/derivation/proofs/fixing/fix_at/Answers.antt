@@ -4,7 +4,7 @@ use Rattle.edit_line.specs.Shapes.{code_fields, shape_of, whole_sets}
 use Rattle.derivation.proofs.CodePlaces.{place-wholes, there-has}
 use Rattle.derivation.proofs.FieldNumbers.{code-within}
 use Rattle.derivation.proofs.WholeBoxes.{whole-fits, within-box}
-use Rattle.derivation.proofs.fixing.fixed_at.Goals as goal
+use Rattle.derivation.proofs.fixing.fix_at.Goals as goal
 
 pub offset_bounds-sets-place : goal.offset_bounds-sets-place
 offset_bounds-sets-place c =

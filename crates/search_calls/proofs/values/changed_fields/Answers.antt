@@ -5,8 +5,8 @@ use Rattle.edit_paths.specs.Cases.{IsCase, case_of}
 use Rattle.edit_paths.specs.Outcomes.{outcome_of}
 use Rattle.back_subst.proofs.ChangeLaws.{change-given, change-whole}
 use Rattle.search_calls.proofs.ValueLaws.{meets-same}
-use Rattle.search_calls.proofs.values.changed_in.Goals as goal
-use Rattle.search_calls.proofs.values.changed_in.Goals.{After-letters}
+use Rattle.search_calls.proofs.values.changed_fields.Goals as goal
+use Rattle.search_calls.proofs.values.changed_fields.Goals.{After-letters}
 
 module _ (c : After-letters) where
   case : IsCase (case_of c.args.survey.now (arc_value c.args.edits.now) c.args.row.now)

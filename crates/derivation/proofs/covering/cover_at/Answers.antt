@@ -3,7 +3,7 @@ use Rattle.edit_line.specs.Sets.{AreSets, none_is_empty}
 use Rattle.edit_line.specs.Shapes.{shape_of, whole_sets}
 use Rattle.derivation.proofs.CodePlaces.{place-wholes}
 use Rattle.derivation.proofs.WholeBoxes.{common-fits, within-sets}
-use Rattle.derivation.proofs.covering.covered_at.Goals as goal
+use Rattle.derivation.proofs.covering.cover_at.Goals as goal
 
 pub whole_at-requires : goal.whole_at-requires
 whole_at-requires c = place-wholes (shape_of c.args.basis.now.survey.now.fields) c.args.field c.args.place c.requires.place
