@@ -52,7 +52,7 @@ code_pairs place whole boxes covers [] = 0
 code_pairs place whole boxes covers (code ∷ codes) =
     length covers * length (parts_for place whole code boxes) + code_pairs place whole boxes (with_code place whole boxes covers code) codes
 
--- the pairs of the elimination of the field
+-- how many pairs of a cover and a box the elimination of the field looks at
 abbrev pub cover_count : List Domain → List (List ℕ) → ℕ → ℕ
 cover_count shape boxes f = code_pairs (place_of shape f) (whole_of shape f) boxes (whole_sets shape ∷ []) (codes_of shape f)
 
@@ -98,7 +98,7 @@ with_code_from place whole boxes covers code = reduce_from (flat_map (row_of pla
 abbrev pub first_cover : List Domain → BoxFrom
 first_cover shape = from_of shape (whole_sets shape) (Cover [])
 
--- the covers of the codes
+-- the covers of these codes, with their origins
 abbrev pub covers_from : List Domain → List BoxFrom → ℕ → List ℕ → List BoxFrom
 covers_from shape boxes f codes = fold (with_code_from (place_of shape f) (whole_of shape f) boxes) (first_cover shape ∷ []) codes
 

@@ -9,7 +9,7 @@ use Rattle.edit_line.specs.Shapes.{Domain, number_fields, whole_sets}
 abbrev pub never : List Domain → List ℕ → LineParts
 never shape sets = parts_of shape sets (map (λ f. pos 0) (number_fields shape)) (negsuc 0) AtLeast
 
--- what the negative of a sum is where the sum is not enough; that of an equality may be above or below 0, so it stays
+-- what the negative of a sum has to be where the sum is not as the relation asks; of an equality it may be above or below 0, so it stays
 abbrev pub contrary_relation : Relation → Relation
 contrary_relation AtLeast = Above
 contrary_relation Above = AtLeast
@@ -27,6 +27,6 @@ never_outside shape place (set ∷ sets) (whole ∷ wholes) =
     else never shape (slice_set (whole_sets shape) place (bit_xor whole set)) ∷ never_outside shape (suc place) sets wholes
 never_outside shape place _ _ = []
 
--- the negation of a line that is no equality, as lines: its sum is not enough, and each code is in its set
+-- the negation of a line that is no equality, as lines: its linear part is false, and each code is in its set
 abbrev pub negation_of : LineParts → List LineParts
 negation_of line = contrary line ∷ never_outside line.shape 0 line.sets (whole_sets line.shape)

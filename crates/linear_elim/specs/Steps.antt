@@ -14,7 +14,7 @@ use Rattle.linear_elim.specs.Combinations.{CombinedParts, SameShape, combination
 
 -- ---- the step over lines alone
 
--- s and t are an opposite pair at the field, whose sets all meet
+-- t bounds the field from above, and its sets all meet those of s; with s a line that bounds it from below, they are an opposite pair
 abbrev pub is_opposite : ℕ → LineParts → LineParts → Bool
 is_opposite f s t = is_upper f t && all_meet s.sets t.sets
 
@@ -136,7 +136,7 @@ step_result lines f = reduced_result (eliminated_result lines f)
 
 -- ---- how many pairs are combined
 
--- the number of lines that are opposite to s and meet it
+-- the number of lines that are opposite to s, a line that bounds the field from below
 abbrev pub opposites : ℕ → Derived → List Derived → ℕ
 opposites f s lines = length (filter (λ (t : Derived). is_opposite f s.line t.line) lines)
 
@@ -144,7 +144,7 @@ opposites f s lines = length (filter (λ (t : Derived). is_opposite f s.line t.l
 abbrev pub row_count : ℕ → List Derived → Derived → ℕ
 row_count f lines s = if is_lower f s.line then opposites f s lines else 0
 
--- the sum of the counts of these lines
+-- the number of pairs of all these lines: the sum of their counts
 abbrev pub rows_count : ℕ → List Derived → List Derived → ℕ
 rows_count f lines [] = 0
 rows_count f lines (s ∷ rows) = row_count f lines s + rows_count f lines rows

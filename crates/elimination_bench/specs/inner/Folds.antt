@@ -20,7 +20,7 @@ answer_of (Err overflow) answer = Err Overflow
 abbrev pub folded : Differences → ℕ → Result (List Derived) SystemOverflow
 folded system count = system_of (differences system (count_of system)) (range_with_len 0 count)
 
--- what is told of that fold: how many lines are left
+-- what is told of that fold: how many edits there were, and how many lines are left
 abbrev pub fold_answer : Differences → ℕ → Result (List ℕ) Fault
 fold_answer system count = answer_of (folded system count) (λ lines. Ok (fold_text count (count_of system) (length lines)))
 
