@@ -12,7 +12,7 @@ use Rattle.donor_measure.specs.declared.yardstick.Yardstick.{Yardstick}
 abbrev pub number_bucket : ℕ → Fraction → ℕ
 number_bucket scale x = unsigned_abs (bucket_of scale x +ℤ pos (10 ^ 24))
 
--- the same of a value, 0 where it is no number
+-- the bucket of a value, counted from the lowest; 0 where it is no number
 abbrev pub bucket_no : ℕ → Value → ℕ
 bucket_no scale (Number x) = number_bucket scale x
 bucket_no scale (Code c) = 0

@@ -1,6 +1,7 @@
-//! Where numbers lie, in buckets: what tells that two records are far apart before they are measured. A
-//! plain number is one as records have them: its numerator is below 10^21, and its denominator at most
-//! 10^6.
+//! Buckets and marks of values, which tell that two records are far apart before they are measured. The
+//! bucket of a number is how many thousandths of its field's scale it is, rounded down. A mark is a bucket
+//! or a code, folded into 16 bits. A plain number is one as records have them: its numerator is below 10^21,
+//! and its denominator at most 10^6.
 ghost use Rattle.std.specs.Prelude.{◌≡◌, ℕ, ◌+◌, ◌-◌, ◌*◌, ◌<◌, ◌≤◌, ◌^◌, ◌+ℤ◌, ◌*ℤ◌, ◌<ℤ◌, min, pos, unsigned_abs, true};
 ghost use Rattle.std.specs.Int.{abs_diff, int_div_euclid};
 ghost use Rattle.edit_model.specs.PlainNumbers.{IsPlain, IsPlainValue};
@@ -78,7 +79,7 @@ fn bucket_of(scale: u64, x: &Fraction) -> i128
     floor_quotient(thousands(x), unit(scale, x))
 }
 
-// A thousand times the numerator: what a bucket is a quotient of.
+// A thousand times the numerator: what is divided by [`unit`] for the number's bucket.
 fn thousands(x: &Fraction) -> i128
     requires { IsPlain x.now }
     ensures product { result ≡ pos 1000 *ℤ x.now.numerator }
@@ -87,7 +88,7 @@ fn thousands(x: &Fraction) -> i128
     1000 * x.numerator()
 }
 
-// The denominator times the scale: what a bucket is a quotient by.
+// The denominator times the scale: by what [`thousands`] is divided for the number's bucket.
 fn unit(scale: u64, x: &Fraction) -> i128
     requires scale { (1 ≤ scale) × (scale ≤ 10 ^ 12) }
     requires plain { IsPlain x.now }
@@ -106,7 +107,8 @@ fn floor_quotient(size: i128, unit: i128) -> i128
     size.div_euclid(unit)
 }
 
-// A bucket, counted from the lowest, so that it is at least 0.
+// The number of a bucket, counted from -10^24 on, so that it is at least 0. No plain number has a lower
+// bucket.
 fn counted(bucket: i128) -> u128
     requires { unsigned_abs bucket ≤ 10 ^ 24 }
     ensures is { result ≡ unsigned_abs (bucket +ℤ pos (10 ^ 24)) }
@@ -129,8 +131,9 @@ pub fn mark_of(scale: Option<u64>, value: &Value) -> u16
     }
 }
 
-// A number folded into 16 bits. As numbers rise, it runs up from 0 to 2^16 - 1, then down again, and so on.
-// So two of them never differ more than the numbers do.
+// The mark of a number, which is a bucket or stands for a code: the number folded into 16 bits. As numbers
+// rise, marks run up from 0 to 2^16 - 1, then down again, and so on. So two marks never differ more than
+// their numbers do.
 fn folded(number: u128) -> u16
     ensures { result ≡ folded number }
 {
@@ -138,8 +141,8 @@ fn folded(number: u128) -> u16
     up.min(PERIOD - 1 - up) as u16
 }
 
-/// The number of whole buckets between two buckets, at most 1000. The distance of two numbers is at least
-/// that, times the weight of their field. No memory.
+/// How many whole buckets lie between two buckets, at most 1000; 0 where they are the same or neighbours.
+/// The distance of two numbers is at least that, times the weight of their field. No memory.
 #[inline(always)]
 pub fn apart_by_buckets(first: u128, second: u128) -> u64
     ensures { result ≡ min 1000 (abs_diff first second - 1) }
@@ -152,8 +155,8 @@ pub fn apart_by_buckets(first: u128, second: u128) -> u64
     }
 }
 
-// The number of whole buckets between one and another that is `apart` buckets further; 0 where both are the
-// same.
+// How many whole buckets lie between one and another that is `apart` buckets further: one less, and 0 where
+// both are the same.
 #[inline(always)]
 fn between(apart: u64) -> u64
     requires { apart ≤ 1000 }

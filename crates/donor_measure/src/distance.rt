@@ -1,7 +1,8 @@
 //! How far two values of one field are apart, exactly, by the field's weight and scale. The distance of
-//! two records is a sum of these. In contracts, `IsMeasurable` asks for a code where there is no scale,
-//! and for a plain number where there is one. `bucket_gap` is the weight times the whole buckets between
-//! two values.
+//! two records is a sum of these. A yardstick is a field's weight, with its scale where it is numerical.
+//! Fields are numbered from 0. In contracts, `IsMeasurable` asks for a code where there is no scale, and
+//! for a plain number where there is one. `bucket_gap` is the weight times the whole buckets between two
+//! values.
 ghost use Rattle.std.specs.Prelude.{◌≡◌, ℕ, IfSome, ◌<◌, ◌≤◌, ◌*◌, ◌-ℤ◌, ◌*ℤ◌, ◌^◌, ◌==◌, ◌/◌, if◌then◌else◌, pos, true, unsigned_abs, min, length};
 ghost use Rattle.edit_model.specs.PlainNumbers.{IsPlain};
 ghost use Rattle.donor_measure.specs.Distances.{bucket_gap, field_distance, thousandths_apart, value_distance};
@@ -54,7 +55,8 @@ fn yardstick(survey: &Survey, field: u32) -> Yardstick
     Yardstick::of(&survey.fields()[field as usize])
 }
 
-// The distance of two values of a field that has this yardstick: its weight times theirs.
+// The distance of two values of a field that has this yardstick: the field's weight times the distance of
+// the values, which is from 0 to 1000.
 #[inline(always)]
 fn distance_by(yardstick: Yardstick, first: &Value, second: &Value) -> u64
     requires fits { IsYardstick yardstick }
@@ -66,8 +68,8 @@ fn distance_by(yardstick: Yardstick, first: &Value, second: &Value) -> u64
     u64::from(yardstick.weight) * value_distance(yardstick.scale, first, second)
 }
 
-// The distance of two values, without the weight of their field. Other pairs do not come: a field's values
-// are codes where it has no scale, and else numbers.
+// The distance of two values without the weight of their field, from 0 to 1000. A field's values are codes
+// where it has no scale, and else numbers. Other pairs do not come, and 0 stands for them.
 #[inline(always)]
 fn value_distance(scale: Option<u64>, first: &Value, second: &Value) -> u64
     requires scale { IsScale scale }
@@ -109,7 +111,8 @@ fn number_distance(scale: u64, x: &Fraction, y: &Fraction) -> u64
     }
 }
 
-// Whether both numbers are whole.
+// Whether both numbers are whole, as most are. Nothing is promised of False: what is then done is right for
+// all numbers.
 #[inline(always)]
 fn are_whole(x: &Fraction, y: &Fraction) -> bool
     ensures { result ≡ true → (x.now.denominator ≡ pos 1) × (y.now.denominator ≡ pos 1) }
@@ -146,8 +149,8 @@ fn fraction_distance(scale: u64, x: &Fraction, y: &Fraction) -> u64
     thousandths(apart(x, y), unit)
 }
 
-// How many thousandths of the unit a size is, rounded down and at most 1000. Most sizes are at least the
-// unit. Then nothing is divided, which would take most of the time.
+// How many thousandths of `unit` the number `size` is, rounded down and at most 1000. Most sizes are at
+// least the unit. Then nothing is divided, which would take most of the time.
 fn thousandths(size: u128, unit: u128) -> u64
     requires some { 1 ≤ unit }
     requires few { size < 2 * 10 ^ 27 }
@@ -185,7 +188,8 @@ fn apart(x: &Fraction, y: &Fraction) -> u128
     cross(x, y).abs_diff(cross(y, x))
 }
 
-// The numerator of `x` times the denominator of `y`.
+// The numerator of `x` times the denominator of `y`: one of the two products by whose difference `x` and `y`
+// are apart.
 fn cross(x: &Fraction, y: &Fraction) -> i128
     requires first { IsPlain x.now }
     requires second { IsPlain y.now }
@@ -209,7 +213,8 @@ fn size(x: &Fraction) -> u64
 mod tests {
     use super::*;
 
-    // The number, where its parts are as small as those of records.
+    // The value with this numerator over this denominator. None where one of them is not as small as those
+    // of records, or the denominator is below 1.
     fn number(numerator: i128, denominator: i128) -> Option<Value>
         ensures { IfSome result (λ v. (scale : ℕ) → IsMeasurable (Some scale) v) }
     {
@@ -220,7 +225,8 @@ mod tests {
         plain_value(Fraction::reduced(numerator, denominator))
     }
 
-    // The value of a fraction in lowest terms, where its parts are as small as those of records.
+    // The fraction, which is in lowest terms, as a value. None where its numerator or denominator is not as
+    // small as those of records.
     fn plain_value(x: Fraction) -> Option<Value>
         ensures { IfSome result (λ v. (scale : ℕ) → IsMeasurable (Some scale) v) }
     {
@@ -232,7 +238,8 @@ mod tests {
         }
     }
 
-    // The distance of two numbers at a field of this weight and scale.
+    // The distance of two numbers at a field of this weight and scale. Each number is a numerator and a
+    // denominator. None where a part is past what surveys and records may have.
     fn apart_at(weight: u32, scale: u64, first: (i128, i128), second: (i128, i128)) -> Option<u64> {
         if weight > 1000 || scale < 1 || scale > 1_000_000_000_000 {
             return None;
@@ -246,6 +253,7 @@ mod tests {
         Some(distance_by(yardstick, &first, &second))
     }
 
+    // Each row has the field's weight and scale, the two numbers, and their distance.
     #[test]
     fn numbers_are_measured_in_thousandths_of_the_scale(rt: HostRuntime) {
         let table: [(u32, u64, (i128, i128), (i128, i128), u64); 27] = [
@@ -318,6 +326,7 @@ mod tests {
         }
     }
 
+    // Each row has the field's weight, the numbers of two codes, and their distance.
     #[test]
     fn codes_are_equal_or_not(rt: HostRuntime) {
         for (weight, first, second, distance) in [

@@ -1,6 +1,6 @@
 //! The distance of two records: what is nearest when a donor is looked for. The caller chooses the closure
-//! by which two values are measured. In contracts, `HasMeasurable` says that a record has a code or a
-//! plain number at each kept field.
+//! by which two values are measured. In contracts, `Measures` says that the closure answers the distance of
+//! two values, and `HasMeasurable` that a record has a code or a plain number at each kept field.
 ghost use Rattle.std.specs.Prelude.{◌≡◌, ◌<◌, ◌≤◌, ◌+◌, ◌*◌, All, IfNone, IfSome, length};
 ghost use Rattle.donor_measure.specs.Distances.{distance, distance_at};
 ghost use Rattle.donor_measure.specs.Measures.{HasMeasurable, Measures};
@@ -72,8 +72,8 @@ impl<F: Fn(u32, &Value, &Value) -> u64> Measure<F> {
         if sum <= most { Some(sum) } else { None }
     }
 
-    // The distance of two records. Or where that is more than `most`, the sum over as many of the first
-    // fields as make it more.
+    // The distance of two records, where it is at most `most`. Else a sum over the first kept fields that is
+    // more already, so that the fields behind are not looked at.
     #[inline(never)]
     fn sum_within(&self, a: &Row, b: &Row, kept: FieldSet, most: u64) -> u64
         requires measures { Measures F.Fn self.now.closure self.now.yardsticks }
@@ -92,7 +92,8 @@ impl<F: Fn(u32, &Value, &Value) -> u64> Measure<F> {
         sum
     }
 
-    // The distance of the records at a field, 0 where the field is not kept.
+    // The distance of the values of two records at the field of this number, from 0. It is 0 where the field
+    // is not kept.
     #[inline(always)]
     fn distance_at(&self, field: u32, a: &Row, b: &Row, kept: FieldSet) -> u64
         requires measures { Measures F.Fn self.now.closure self.now.yardsticks }
