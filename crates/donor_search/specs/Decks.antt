@@ -52,7 +52,7 @@ slot_at slots place = slice_index_or slots place (record { bucket = 0; donor = 0
 abbrev pub slot_marks : List Yardstick → List (List Value) → Slot → List ℕ
 slot_marks yardsticks rows slot = marks_of yardsticks (row_at rows slot.donor)
 
--- those at the first n fields
+-- the marks of the donor of a slot at the first n fields
 abbrev pub slot_first_marks : ℕ → List Yardstick → List (List Value) → Slot → List ℕ
 slot_first_marks n yardsticks rows slot = take n (slot_marks yardsticks rows slot)
 

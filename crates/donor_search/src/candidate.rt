@@ -1,6 +1,8 @@
 //! The nearest donors that were found so far, in order: by distance, then by number. In this file `near` is
-//! how many are asked for at most. In contracts, `IsClosedAt` says that no donor at this distance or
-//! farther has a place among them. `Reaches` says that some candidate is at least this far.
+//! how many are asked for at most. In contracts, `placed` is a list with one more put before the first that
+//! it comes before. `IsClosedAt` says that no donor at this distance or farther has a place among them.
+//! `Reaches` says that some candidate is at least this far, and `IsOpenOrReaches` that, or that fewer are
+//! found than are asked for.
 ghost use Rattle.std.specs.Prelude.{◌≡◌, ◌+◌, ◌<◌, ◌≤◌, true, false, length, take, IfNone, IfSome, OnOk};
 ghost use Rattle.std.specs.List.{position, position_or_len};
 ghost use Rattle.donor_search.specs.Rankings.{IsInOrder, placed};
@@ -62,7 +64,7 @@ pub(crate) fn farthest(nearest: &[Candidate], near: usize) -> Option<u64>
 }
 
 /// Whether no donor at a distance of at least `gap` has a place among the nearest. There are `near` of them
-/// then, and the last is nearer than that.
+/// then, and the last is nearer than that. False where fewer were found, or `near` is 0.
 pub(crate) fn is_closed_at(nearest: &[Candidate], near: usize, gap: u64) -> bool
     requires few { length nearest.now ≤ near }
     requires order { IsInOrder is_before nearest.now }
@@ -87,7 +89,7 @@ fn place_of(nearest: &[Candidate], candidate: Candidate) -> usize
     }
 }
 
-// The place of the first of the nearest that the candidate comes before, if there is one.
+// The place of the first of the nearest that the candidate comes before; None where it comes before none.
 fn first_behind(nearest: &[Candidate], candidate: Candidate) -> Option<usize>
     ensures { result ≡ position (is_before candidate) nearest.now }
 {

@@ -71,10 +71,11 @@ impl Model for Deck {
 }
 
 impl Deck {
-    /// The deck of all clean rows of the sheet: those without a Bad field at which every rule of the survey
-    /// holds. The sheet is one of the survey. A ranking for any kept fields may be asked of the deck
-    /// (`CanAllGive`), and what it keeps is right (`IsDeckOf`), where all numbers are plain. Plain are
-    /// numerators below 10^21 with denominators of at most 10^6.
+    /// The deck of all clean rows of the sheet, which is one of the survey: those without a Bad field at
+    /// which every rule holds. The clause `clean` says which list the donors are, and `rows` that each is a
+    /// clean row. Where all numbers are plain, a ranking for any kept fields may be asked of the deck
+    /// (`CanAllGive`), and what it keeps is right (`IsDeckOf`). Plain are numerators below 10^21 with
+    /// denominators of at most 10^6.
     pub fn new(alloc: Global, survey: &Survey, sheet: &Sheet) -> Result<Deck, OutOfMemory>
         requires { AllByRecursion (IsRow survey.now.fields) sheet.now.rows }
         ensures clean { IfOk result (λ deck. deck.donors ≡ donors_of survey.now sheet.now.rows) }
@@ -140,7 +141,7 @@ impl Deck {
         self.marks.as_slice()
     }
 
-    // The first numerical field; where there is none, the number of fields.
+    // The number of the first numerical field, from 0; where there is none, the number of fields.
     pub(crate) fn first(&self) -> u32
         ensures { result ≡ self.now.first }
     {
@@ -157,7 +158,7 @@ impl Deck {
     }
 
     // The marks of the donors at the first eight fields alone, or at all where there are fewer. They stand
-    // one donor after the other in the same order.
+    // one donor after the other in the order of the slots of the first numerical field.
     #[inline(always)]
     pub(crate) fn first_marks(&self) -> &[u16]
         ensures { result.now ≡ self.now.first_marks }
@@ -165,8 +166,8 @@ impl Deck {
         self.first_marks.as_slice()
     }
 
-    // The ranges of the marks in each whole block of 32 donors in the same order, one block after the other.
-    // Each block has one range for each field.
+    // The ranges of the marks of each whole block of 32 donors, one block after the other. The donors are in
+    // the order of the slots of the first numerical field. Each block has one range for each field.
     #[inline(always)]
     pub(crate) fn ranges(&self) -> &[MarkRange]
         ensures { result.now ≡ self.now.ranges }
@@ -224,7 +225,8 @@ fn slots_in(index: &[Sequence<Slot>], field: u32) -> &[Slot]
     }
 }
 
-// The first numerical field; where there is none, the number of fields.
+// The number of the first numerical field, from 0; where there is none, the number of fields. In the order of
+// its slots a deck keeps the marks of its donors once more.
 fn first_number(survey: &Survey) -> u32 {
     let yardsticks = Yardsticks::of(survey);
     for field in 0..yardsticks.count() {

@@ -103,8 +103,8 @@ fn row_slots(
     Ok(slots)
 }
 
-// A donor with its bucket at a field of this scale, which is right where the records' numbers are plain, as
-// above. The survey stands here for the contract alone.
+// A donor with its bucket at a field of this scale. The bucket is right where the records' numbers are plain
+// (`HasPlainNumbers`). The survey stands here for the contract alone.
 fn slot(survey: &Survey, sheet: &Sheet, donor: u32, field: u32, scale: u64) -> Slot
     requires field { field < length survey.now.fields }
     requires scale { (1 ≤ scale) × (scale ≤ 10 ^ 12) }

@@ -1,7 +1,8 @@
 //! The ranking of donors for a record. In contracts, `Measures` says that the closure answers the distance
 //! of two values. `HasMeasurable` and `IsRankable` say that a record and a donor can be measured, `AreRanked`
 //! that candidates are those of the ranking. `most_asked`, or `most_in` of a search, counts the donors whose
-//! bucket gap is at most the distance of the last of a full ranking. Of another ranking it is all.
+//! bucket gap is at most the distance of the last of a full ranking. Of another ranking it is all. `AreFirst`
+//! says that no other donor is nearer than one of the ranking.
 ghost use Rattle.std.specs.Prelude.{◌≡◌, ◌+◌, ◌≤◌, All, IfOk, length, map, nat_eq};
 ghost use Rattle.std.specs.List.{Contains, IsDistinct};
 ghost use Rattle.donor_measure.specs.Measures.{HasMeasurable, Measures};
@@ -27,9 +28,9 @@ use std::alloc::Global;
 use std::sync::ledger::Ledger;
 
 /// The donors for a record: the first `near` of the deck by distance over the kept fields, then by number,
-/// none of them twice. The donors are rows of the sheet. They and the record have codes or numbers at the
-/// kept fields, numbers with numerators below 10^21 and denominators of at most 10^6. One step is counted
-/// for each donor that is measured, which are `most_asked` at most.
+/// none of them twice; all where the deck has fewer. They are rows of the sheet. They and the record have
+/// codes or numbers at the kept fields, numbers with numerators below 10^21 and denominators of at most
+/// 10^6. One step is counted for each donor that is measured, which are `most_asked` at most.
 pub fn ranking<F: Fn(u32, &Value, &Value) -> u64, L: Ledger>(
     alloc: Global,
     deck: &Deck,
@@ -69,8 +70,8 @@ pub fn ranking<F: Fn(u32, &Value, &Value) -> u64, L: Ledger>(
     donors_of(alloc, &nearest)
 }
 
-// The nearest donors, by a walk along the buckets of the first kept numerical field. Where no such field is
-// kept, each donor is looked at.
+// The nearest donors, found by a walk along the buckets of the first kept numerical field. Where no such
+// field is kept, each donor of the deck is looked at in turn.
 fn nearest_of<F: Fn(u32, &Value, &Value) -> u64, L: Ledger>(
     alloc: Global,
     search: &Search<F>,

@@ -1,6 +1,7 @@
 //! Donors that the walk passes over: they are farther than the last of the nearest, as their marks tell.
 //! They are neither measured nor looked at in the sheet. In contracts, `IsPassing` says that the parts of a
 //! [`Passing`] are of one search. `AreFar` says that the donors between two places are farther than `most`.
+//! `IsPast` says that a span has places more, and that no donor of these has a place among the nearest.
 ghost use Rattle.std.specs.Prelude.{◌≡◌, ◌⊎◌, ◌+◌, ◌-◌, ◌≤◌, ◌<◌, length, true};
 ghost use Rattle.donor_search.specs.Decks.{block_size, slot_at, slots_at};
 ghost use Rattle.donor_search.specs.Rankings.{IsInOrder};
@@ -75,9 +76,10 @@ pub(crate) fn past<F: Fn(u32, &Value, &Value) -> u64>(
     }
 }
 
-// The first place from `start` on of which the marks do not tell that the donor is farther than `most`. It
-// is looked for in the block of `start` alone. Where there is none, the answer is the end of the block, or
-// of the slots. Where ranges tell it of a whole block from `start` on, its end is the answer at once.
+// Passes over donors from the place `start` upward, which their marks tell to be farther than `most`. The
+// answer is the place of the first that is not passed over. Only the block of `start` is looked at, so the
+// answer is at most its end, or that of the slots. A whole block that is far by its ranges is passed over
+// at once.
 fn far_above<F: Fn(u32, &Value, &Value) -> u64>(passing: &Passing<F>, start: usize) -> usize
     requires passing { IsPassing F.Fn passing.now }
     requires start { start ≤ length (slots_of passing.now) }
@@ -99,8 +101,9 @@ fn far_above<F: Fn(u32, &Value, &Value) -> u64>(passing: &Passing<F>, start: usi
     place
 }
 
-// The least place from which all donors up to `end`, without that, are farther than `most`, as their marks
-// tell. Only the block right below `end` is looked at. The answer is `end` where there is no such donor.
+// Passes over donors from below the place `end` downward, which their marks tell to be farther than `most`.
+// The answer is the place of the last that is passed over, and `end` where none is. Only the block right
+// below `end` is looked at. If that is far by its ranges, it is passed over at once.
 fn far_below<F: Fn(u32, &Value, &Value) -> u64>(passing: &Passing<F>, end: usize) -> usize
     requires passing { IsPassing F.Fn passing.now }
     requires some { 1 ≤ end }
@@ -122,8 +125,8 @@ fn far_below<F: Fn(u32, &Value, &Value) -> u64>(passing: &Passing<F>, end: usize
     place
 }
 
-// Whether the marks of the donor at this place of the slots tell that it is farther than `most`. Those at
-// the first eight fields are asked first, as they often suffice.
+// Whether the marks of the donor at this place of the slots tell that it is farther than `most`. False where
+// they do not tell it. The marks at the first eight fields are asked first, as they often suffice.
 #[inline(always)]
 fn is_far<F: Fn(u32, &Value, &Value) -> u64>(passing: &Passing<F>, place: usize) -> bool
     requires passing { IsPassing F.Fn passing.now }

@@ -18,8 +18,8 @@ pub struct MarkRange {
 }
 
 /// The ranges of the marks in each whole block of donors, one block after the other, each with one range for
-/// each field. A last block of fewer than 32 has none. `marks` has `count` marks, one for each field, of
-/// each of so many `donors`, one donor after the other.
+/// each field. A last block of fewer than 32 has none. `donors` says how many donors there are. `marks` has
+/// `count` marks of each of them, one for each field, one donor after the other.
 pub(crate) fn ranges_of(
     alloc: Global,
     marks: &[u16],

@@ -1,6 +1,7 @@
 //! A search for the nearest donors of one record: how one donor is ranked among them, and where its marks
 //! stand. In contracts, `IsSearch` says that record and donors can be measured, and that the deck is one of
-//! the sheet's rows. `IsDeckOf` says the latter alone.
+//! the sheet's rows. `IsDeckOf` says the latter alone. `Ranks` says that one donor more is put at its place,
+//! and that no more than `near` stay.
 ghost use Rattle.std.specs.Prelude.{◌≡◌, ◌+◌, ◌*◌, ◌<◌, ◌≤◌, OnOk, length, min, take};
 ghost use Rattle.donor_measure.specs.Buckets.{marks_of};
 ghost use Rattle.donor_search.specs.CleanRows.{IsRankable, row_at};
@@ -105,9 +106,9 @@ pub(crate) fn marks_at<'a, F>(search: &Search<'a, F>, donor: u32) -> &'a [u16]
     &search.deck.marks()[start..start + count]
 }
 
-/// The marks of `donor`, which is that of the slot at this place, in the walk by this field. Most walks go by
-/// the first numerical field. Then the marks stand in the order of the walk, so that memory is read in
-/// order.
+/// The marks of a donor, one for each field, where the walk goes by the slots of `field`. `donor` is that of
+/// the slot at `place`. Most walks go by the first numerical field. For that the marks stand in the order of
+/// the walk, so that memory is read in order.
 #[inline(always)]
 pub(crate) fn marks_in_walk<'a, F>(
     search: &Search<'a, F>,
@@ -142,9 +143,9 @@ fn marks_at_place<'a, F>(search: &Search<'a, F>, place: usize) -> &'a [u16]
     &marks[start..start + count]
 }
 
-/// The marks at the first eight fields, or all where there are fewer, of `donor`, which is that of the slot
-/// at this place. In the walk by the first numerical field these stand one donor after the other, so that
-/// little memory is read.
+/// The marks of a donor at the first eight fields, or at all where there are fewer. The walk goes by the slots
+/// of `field`, and `donor` is that of the slot at `place`. In the walk by the first numerical field these
+/// marks stand one donor after the other, so that little memory is read.
 #[inline(always)]
 pub(crate) fn first_marks_in_walk<'a, F>(
     search: &Search<'a, F>,

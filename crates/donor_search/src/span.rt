@@ -1,6 +1,7 @@
 //! The part of the slots of a field that was walked over. It grows by one place at either end, or by donors
 //! that are passed over. In contracts, `IsSpan` says that the slots below are of buckets up to the record's,
-//! and those above of buckets from it on. `IsNext` says that no place outside has a nearer bucket.
+//! and those above of buckets from it on. `IsNext` says that no place outside has a nearer bucket, and
+//! `IsWider` that a span has one place more.
 ghost use Rattle.std.specs.Prelude.{◌≡◌, ◌⊎◌, ◌+◌, ◌-◌, ◌<◌, ◌≤◌, ◌^◌, length};
 ghost use Rattle.std.specs.List.Sorted.{IsNonDecreasingBy};
 ghost use Rattle.donor_search.specs.declared.slot.Slot.{Slot as AnySlot};
@@ -61,7 +62,7 @@ impl Span {
         }
     }
 
-    /// The span and the place, which is next to it.
+    /// The span with this place more, which is next to it at its lower or its upper end.
     pub fn with(self, place: usize) -> Span
         requires beside { (place + 1 ≡ self.low) ⊎ (place ≡ self.high) }
         requires fits { place + 1 < 2 ^ 64 }

@@ -27,11 +27,11 @@ pub record IsProfile (yardsticks : List Yardstick) (kept : ℕ) (row : List Valu
   pub weighed : profile ≡ weighed_from 0 yardsticks kept row
   pub fit : All IsYardstick yardsticks
 
--- what two marks tell of how far two values are apart
+-- how far two values are at least apart, as their marks tell: the weight times one less than these differ, at most 1000
 abbrev pub told_by : Weighed → ℕ → ℕ
 told_by own mark = own.weight * min 1000 (abs_diff own.mark mark - 1)
 
--- what the marks of a donor tell of how far it is from a record
+-- how far a donor is at least from a record, as its marks tell: the sum over the fields
 abbrev pub told : List Weighed → List ℕ → ℕ
 told [] marks = 0
 told (own ∷ owns) [] = 0

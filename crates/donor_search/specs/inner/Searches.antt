@@ -26,7 +26,7 @@ yardsticks_in s = s.measure.now.yardsticks
 abbrev pub far_in : {F : Type 0} → Search F → ℕ → ℕ
 far_in s = distance_to (yardsticks_in s) s.sheet.now.rows s.row.now s.kept
 
--- its bucket gap at a field
+-- the bucket gap of a donor and the record at a field
 abbrev pub gap_in : {F : Type 0} → Search F → ℕ → ℕ → ℕ
 gap_in s field = gap_to (yardsticks_in s) s.sheet.now.rows s.row.now field
 
@@ -38,7 +38,7 @@ ranking_in s = ranking_of (yardsticks_in s) s.sheet.now.rows s.deck.now.donors s
 abbrev pub AreRanked : {F : Type 0} → Search F → List Candidate → Type 0
 AreRanked s nearest = nearest ≡ map (candidate_of (far_in s)) (ranking_in s)
 
--- how many donors may be measured for it
+-- how many donors may be measured for the ranking
 abbrev pub most_in : {F : Type 0} → Search F → ℕ
 most_in s =
     most_asked (yardsticks_in s) s.sheet.now.rows s.deck.now.donors s.row.now s.kept s.near
