@@ -19,8 +19,8 @@ use std::alloc::Global;
 use std::sync::ledger::Ledger;
 
 /// The nearest donors, found from the record's bucket at the index field outward. When as many were found
-/// as are asked for, no donor counts that is farther than the last of these. Donors of which their marks
-/// tell it are passed over together. The walk ends where the gap of buckets alone tells it.
+/// as are asked for, no donor counts that is farther than the last of these. Donors that are so by their
+/// marks are passed over together. The walk ends where all that are left are so by the gap of buckets alone.
 pub(crate) fn walk<F: Fn(u32, &Value, &Value) -> u64, L: Ledger>(
     alloc: Global,
     search: &Search<F>,
