@@ -29,15 +29,15 @@ use Rattle.record_pieces.specs.declared.rest.Rest.{Rest}
 abbrev pub edits_in : {F : Type 0} → Rest F → EditsParts
 edits_in rest = arc_value rest.edits
 
--- the records
+-- the records that are edited: the rows of the sheet
 abbrev pub rows_in : {F : Type 0} → Rest F → List (List Value)
 rows_in rest = rest.sheet.rows
 
--- the field by which they are in classes, if there is one
+-- the class field, by whose codes the records are in classes, if there is one
 abbrev pub class_field_in : {F : Type 0} → Rest F → Option ℕ
 class_field_in rest = rest.decks.class_field
 
--- the case of one of them
+-- what the search of a record is about: the survey, the edits and the record
 abbrev pub case_in : {F : Type 0} → Rest F → List Value → SearchCase
 case_in rest row = case_of rest.survey (edits_in rest) row
 

@@ -112,8 +112,8 @@ fn deck_of_all(alloc: Global, survey: &Survey, sheet: &Sheet) -> Result<Vec<Deck
     Ok(decks)
 }
 
-// The decks of the clean rows with each code of the class field, in the order of the codes. They share the
-// marks of the rows.
+// The decks by a class field: for each of its codes, in their order, one of the clean rows with this code.
+// They share the marks of the rows. There is none where the field is numerical.
 fn decks_by(
     alloc: Global,
     survey: &Survey,

@@ -1,7 +1,8 @@
 //! What is found of one record: the outcome of its search, and the donors that it asks for. In contracts,
 //! `IsRest` says that the parts of `rest` fit one another: its edits are its rules', its decks its records'.
 //! `IsPieceIn` says that a piece is what this rest tells of its record. `serves` has the edits whose systems
-//! a source gives, and `keeps` the sets of fields whose systems it keeps.
+//! a source gives, and `keeps` the sets of fields whose systems it keeps. `KeepsFor` says that the system of
+//! a found change is kept.
 ghost use Rattle.std.specs.Prelude.{◌≡◌, ◌<◌, ◌==◌, ℕ, IfOk, IfSome, length, not, true};
 ghost use Rattle.std.specs.List.{All};
 ghost use Rattle.edit_line.specs.EditSets.{EditsParts};
@@ -29,8 +30,8 @@ use localise_tree::localise;
 use std::alloc::Global;
 use std::sync::ledger::Ledger;
 
-/// What is found of the record of this number: the outcome of its search by the edits, its class, and the
-/// donors that it ranks. The source gives the derived systems.
+/// What is found of the record of this number, from 0: the outcome of its search by the edits, its class, and
+/// the donors that it ranks. The source gives the derived systems. `steps` counts on over search and ranking.
 pub fn piece_of<F: Fn(u32, &Value, &Value) -> u64, S: Systems, L: Ledger>(
     alloc: Global,
     source: &mut S,
@@ -67,8 +68,8 @@ pub fn piece_of<F: Fn(u32, &Value, &Value) -> u64, S: Systems, L: Ledger>(
     })
 }
 
-/// What a record asks of the donors: its class, and the donors of this class that it ranks, the nearest
-/// first. The ranking is None where it needs no donor.
+/// What a record asks of the donors once its search has ended: its class, and the donors of this class that
+/// it ranks, the nearest first. The ranking is None where it needs no donor. Both become part of its piece.
 #[derive(Debug, Drop)]
 struct Wish {
     class: u32,
