@@ -20,8 +20,8 @@ use std::alloc::Global;
 use std::thread::Threads;
 
 /// What becomes of each record, in order, by what was found of it and the donor that it was given in this
-/// history of claims. `rest` is by what the records are edited. The pieces are one for each record, in row
-/// order. The records are given values side by side, in the threads of `rt`.
+/// history of claims. `rest` has the survey, the edits and the sheet. The pieces are one for each record, in
+/// row order. The records are given values side by side, in the threads of `rt`.
 pub fn give_all<R: Threads + Sync, F: Fn(u32, &Value, &Value) -> u64 + Send + Sync>(
     rt: &R,
     alloc: Global,

@@ -112,7 +112,8 @@ fn with_values<F: Fn(u32, &Value, &Value) -> u64, L: Ledger>(
     }
 }
 
-// The row of the donor, if there is one.
+// The row of the donor of this number, from 0, whose values are the first choice; None where there is no
+// donor.
 fn values_of(sheet: &Sheet, donor: Option<u32>) -> Option<&Row>
     requires { IfSome donor (λ d. d < length sheet.now.rows) }
     ensures { option_copied result ≡ option_map (row_at sheet.now.rows) donor }
@@ -123,8 +124,8 @@ fn values_of(sheet: &Sheet, donor: Option<u32>) -> Option<&Row>
     }
 }
 
-// What the proof file tells of a change. `gift` is the fault for which its fields are given no values, or
-// None where they are given some.
+// What the proof file tells of a change. `gift` is not the values here: it is the fault for which the changed
+// fields are given none, and None where they are given some.
 fn proof_of(change: Change, gift: Option<GiftFault>) -> RowProof
     ensures outcome { result.outcome ≡ outcome.Change change.path change.weight change.cert }
     ensures gift { result.gift ≡ gift }
@@ -139,7 +140,8 @@ fn proof_of(change: Change, gift: Option<GiftFault>) -> RowProof
     }
 }
 
-// The end of a record with a change whose fields are given no values, since a number left the range.
+// The end of a record with a change whose fields are given no values, since a number left the range. The
+// fault says where. It stands in `proof.gift`, and the `gift` of the end, the values, is None.
 fn without_values(change: Change, donor: Option<u32>, fault: GiftFault) -> RowEnd
     ensures outcome { result.proof.outcome ≡ outcome.Change change.path change.weight change.cert }
     ensures fault { result.proof.gift ≡ Some fault }
@@ -152,7 +154,8 @@ fn without_values(change: Change, donor: Option<u32>, fault: GiftFault) -> RowEn
     }
 }
 
-// The end of a record for which no change was found; it has no values.
+// The end of a record for which no change was found: it has the outcome of its search, no values, and no
+// fault of giving them.
 fn left_out(outcome: Outcome, donor: Option<u32>) -> RowEnd
     ensures outcome { result.proof.outcome ≡ outcome }
     ensures none { (result.proof.gift ≡ None) × (result.donor ≡ donor) × (result.gift ≡ None) }
