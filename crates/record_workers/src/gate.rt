@@ -13,6 +13,6 @@ pub trait Gate: Sync {
 pub struct NoGate;
 
 impl Gate for NoGate {
-    // It returns at once.
+    // Lets the worker go on at once.
     fn at(&self, _worker: u32, _row_no: u32) {}
 }

@@ -25,8 +25,8 @@ use std::thread;
 use std::thread::Threads;
 
 /// What workers found and claimed, all together. There is a piece for each record, in row order. The claims
-/// of donors stand class by class, in each in the order in which they were answered. `rest` is by what the
-/// records were edited.
+/// of donors stand class by class, in each in the order in which they were answered. `rest` is that of the
+/// workers, with the survey, the sheet, and the pool that they filled.
 #[derive(Drop)]
 pub struct Gathered<F> {
     pub pieces: Vec<Piece>,

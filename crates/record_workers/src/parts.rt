@@ -19,7 +19,7 @@ pub(crate) struct Parts {
 }
 
 impl Parts {
-    // Puts the worker's seat, pass and pieces behind those that are there.
+    // Takes a worker that has run apart, and puts its seat, pass and pieces behind those that are there.
     fn add(&mut self, worker: Worker) -> Result<(), OutOfMemory>
         ensures seats { OnOk result (self.new.seats.items ≡ self.old.seats.items ++ worker.seat ∷ []) }
         ensures passes { OnOk result (self.new.passes.items ≡ self.old.passes.items ++ worker.pass ∷ []) }

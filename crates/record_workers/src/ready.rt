@@ -20,7 +20,8 @@ use std::alloc::Global;
 use ticket_row::{Seat, Tickets};
 
 /// What workers share, and these workers, which have done nothing yet. `workers` says how many there are,
-/// from 1 to 64. A donor is given at most `limit` times.
+/// from 1 to 64. A donor is given at most `limit` times. Each row of the sheet has a ticket, and each class a
+/// book of claims.
 pub fn shared_by<F: Fn(u32, &Value, &Value) -> u64>(
     alloc: Global,
     rest: Rest<F>,
@@ -51,8 +52,8 @@ pub fn shared_by<F: Fn(u32, &Value, &Value) -> u64>(
     Ok((shared, ready))
 }
 
-// `count` workers that have done nothing yet, each with one of the seats and one of the passes, of which
-// there are as many.
+// `count` workers that have done nothing yet, numbered from 0. Each has one of the seats and one of the
+// passes, of which there are as many.
 fn workers_at(
     alloc: Global,
     pool: &Pool,

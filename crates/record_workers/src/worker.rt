@@ -1,6 +1,7 @@
 //! One worker, which draws records until none is left. In contracts, `HasWorked` says that its pieces and
 //! its claims are right so far. `FoundAll` says that it has a piece for each row that it drew. `MissesLast`
-//! says that it lacks the one of the last row, as memory was refused.
+//! says that it lacks the one of the last row, as memory was refused. `ArePlacedIn` says that in each class
+//! with donors the claims of a pass are among those that it has seen, in their order.
 ghost use Rattle.std.specs.Prelude.{◌≡◌, ◌⊎◌, ◌<◌, OnErr, OnOk, length, true};
 ghost use Rattle.record_pieces.specs.Rests.{IsPieceIn, rows_in, rows_of};
 ghost use Rattle.record_workers.specs.Workers.{ArePlacedIn, FoundAll, HasWorked, IsReady, IsShared, MissesLast, last_class};

@@ -12,7 +12,7 @@ use Rattle.record_workers.specs.Workers.{FoundAll, HasWorked}
 use Rattle.record_workers.specs.declared.shared.Shared.{Shared}
 use Rattle.record_workers.specs.declared.worker.Worker.{Worker}
 
--- their seats, their passes, and their pieces
+-- the seats, the passes and the pieces of these workers, in the workers' order
 abbrev pub seats_of : List Worker → List tickets.SeatState
 seats_of workers = map (λ (w : Worker). w.seat) workers
 
