@@ -4,7 +4,8 @@ use edit_report::RowEnd;
 use record_pieces::Rest;
 
 /// What became of the records of a sheet: the end of each, in order. The claims of donors stand class by
-/// class, in each in the order in which they were answered. `rest` is by what the records were edited.
+/// class, in each in the order in which they were answered. `rest` has the survey, the edits, the sheet and
+/// the pool of systems by which the records were edited.
 #[derive(Drop)]
 pub struct Edited<F> {
     pub ends: Vec<RowEnd>,

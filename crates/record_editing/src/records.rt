@@ -37,8 +37,8 @@ use std::thread::Threads;
 /// What becomes of each record of a sheet, in order: the outcome of its search by the edits, and the values
 /// of its changed fields. For these it claims a donor among the clean records, those of its own imputation
 /// class where the terms have a class field. From 1 to 64 workers draw the records side by side, and the
-/// gate is told of each draw. The edits say of a point with codes of the survey what the rules say. The
-/// measure is one of the survey, and the records' numbers are plain.
+/// gate is told of each draw. At a point with codes of the survey, the edits hold exactly where the rules
+/// do. The measure is one of the survey, and the records' numbers are plain.
 pub fn edit_records<
     R: Threads + Wait + Sync,
     F: Fn(u32, &Value, &Value) -> u64 + Send + Sync,
