@@ -15,7 +15,7 @@ pub record CoreParts : Type 0 where
   pub published : List SystemParts
   pub book : BookParts
 
--- nothing is drawn or published
+-- the state at the start: nothing is drawn or published
 abbrev pub start_of : ℕ → ℕ → EditsParts → BookParts → CoreParts
 start_of rows workers edits book =
     record { rows = rows; next = 0; workers = replicate workers idle; edits = edits; published = []; book = book }

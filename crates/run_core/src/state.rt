@@ -1,6 +1,7 @@
 //! What all workers share, as one state, and what an event makes of it. In contracts, `IsDue` says that an
 //! event may come. Its worker is one of these, its system is of the state's edits, and its claim is one of
-//! the book's. `reply_to` and `after` are what an event is answered, and what it leaves.
+//! the book's. `reply_to` and `after` are what an event is answered, and what it leaves. `HasTermsOf` says
+//! that how many rows and workers there are, the edits, and the terms of the book are as before.
 ghost use Rattle.std.specs.Prelude.{◌≡◌, ◌+◌, ◌-◌, ◌<◌, ◌^◌, ◌++◌, [], ◌∷◌, length, IfOk, IsOk, OnOk, OnErr};
 ghost use Rattle.std.specs.Arc.{arc_value};
 ghost use Rattle.run_core.specs.States.{start_of};
@@ -97,8 +98,9 @@ impl CoreState {
         }
     }
 
-    // Draws for this worker: the next number, or None where none is left. The next number rises when the
-    // worker is first told so, too, as it does where tickets are drawn from one counter.
+    // Draws for the worker of this number: the next row number, or None where none is left. The counter of
+    // the next number rises at each draw, at a worker's first None too, as one counter of tickets does. It
+    // stays at later ones of this worker.
     fn draw(&mut self, worker: u32) -> Result<Option<u32>, OutOfMemory>
         requires { worker < length self.old.workers }
         ensures number { IfOk result (λ number. number ≡ drawn_by self.old worker) }

@@ -31,7 +31,7 @@ fn no_edits(alloc: Global) -> Result<Arc<Edits>, Fail> {
     Ok(Arc::new(alloc, edits)?)
 }
 
-// Two rows and two workers, with one donor that is given once.
+// The state at the start of two workers that share two rows, with one donor that is given once at most.
 fn core_of_two(alloc: Global, edits: Arc<Edits>) -> Result<CoreState, Fail>
     ensures edits { IfOk result (λ core. core.edits ≡ arc_value edits) }
     ensures workers { IfOk result (λ core. length core.workers ≡ 2) }
@@ -43,6 +43,7 @@ fn core_of_two(alloc: Global, edits: Arc<Edits>) -> Result<CoreState, Fail>
     Ok(CoreState::start(alloc, 2, 2, edits, book)?)
 }
 
+// The worker of this number, from 0, draws; the reply has the row number, or None where none is left.
 fn draw(core: &mut CoreState, worker: u32) -> Result<CoreReply, Fail>
     requires { worker < length core.old.workers }
     ensures { HasTermsOf core.old core.new }
@@ -50,7 +51,7 @@ fn draw(core: &mut CoreState, worker: u32) -> Result<CoreReply, Fail>
     Ok(core.step(CoreEvent::Draw { worker })?)
 }
 
-// A claim of the one donor.
+// The worker of this number claims for the row of that number, and ranks the one donor alone.
 fn claim(core: &mut CoreState, alloc: Global, worker: u32, row_no: u32) -> Result<CoreReply, Fail>
     requires worker { worker < length core.old.workers }
     requires row { row_no < core.old.book.rows }
@@ -65,7 +66,8 @@ fn claim(core: &mut CoreState, alloc: Global, worker: u32, row_no: u32) -> Resul
     })?)
 }
 
-// The first worker publishes the system of these edits.
+// The first worker publishes the system of these edits of which no field is eliminated. `blank` begins a
+// counter of steps, which nobody reads.
 fn publish<L: Ledger>(
     core: &mut CoreState,
     alloc: Global,
@@ -86,7 +88,7 @@ fn publish<L: Ledger>(
     Ok(core.step(CoreEvent::Publish { worker: 0, system })?)
 }
 
-// The same, where nothing is counted.
+// The first worker publishes the system of these edits, as [`publish`] says, with a counter of its own.
 fn publish_alone(core: &mut CoreState, alloc: Global, edits: &Arc<Edits>) -> Result<CoreReply, Fail>
     requires edits { core.old.edits ≡ arc_value edits.now }
     requires worker { 0 < length core.old.workers }
@@ -95,6 +97,8 @@ fn publish_alone(core: &mut CoreState, alloc: Global, edits: &Arc<Edits>) -> Res
     publish::<Brand>(core, alloc, edits, Blank::new(1))
 }
 
+// Each worker draws a row. The donor is given to the first claim, and nobody to that of the other row. Who
+// claims again is told what it had, and a draw past the last row is answered None.
 #[test]
 fn two_workers_draw_and_claim(rt: HostRuntime) -> Result<(), Fail> {
     let alloc = rt.alloc();
@@ -115,6 +119,7 @@ fn two_workers_draw_and_claim(rt: HostRuntime) -> Result<(), Fail> {
     Ok(())
 }
 
+// The first system that is published stands at place 0.
 #[test]
 fn a_system_is_published(rt: HostRuntime) -> Result<(), Fail> {
     let alloc = rt.alloc();

@@ -29,8 +29,8 @@ impl Worker {
         self.ended
     }
 
-    /// Takes `next` where it is below `rows`, the count of rows. Else the worker is told that none is left,
-    /// and is told so again from then on.
+    /// Takes the row number `next`, and answers it, where it is below `rows`, the count of rows. Else the
+    /// answer is None, and None again from then on. Where memory is refused the worker is as before.
     pub fn draw(&mut self, next: u64, rows: u32) -> Result<Option<u32>, OutOfMemory>
         ensures number { IfOk result (λ number. number ≡ number_for self.old next rows) }
         ensures drawn { OnOk result (self.new ≡ having_drawn self.old (number_for self.old next rows)) }
