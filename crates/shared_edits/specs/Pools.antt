@@ -18,7 +18,7 @@ pub record Walked : Type 0 where
   pub own : Bool
   pub fits : Bool
 
--- the system that stands there
+-- the derived system of an entry that a reader has walked
 abbrev pub system_of : Walked → SystemParts
 system_of w = w.token.value
 

@@ -1,4 +1,4 @@
-//! An entry of a pool, as a reader keeps it that has walked it.
+//! An entry of a pool: a derived system that was published there, as a reader keeps it that has walked it.
 ghost use Rattle.std.specs.Prelude.{◌≡◌, length};
 ghost use Rattle.std.specs.Arc.{arc_value};
 ghost use Rattle.linear_elim.specs.Systems.{IsSystem};

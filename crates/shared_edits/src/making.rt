@@ -56,8 +56,8 @@ impl Pool {
     }
 }
 
-// The system without all fields of the set, by one step from `others`, the system without all of them but
-// `last`, the last one. The fault is the overflow of that step, or want of memory.
+// The system without the fields of the set, by one step from `others`, which is without all of them but
+// `last`, the greatest. The fault is the overflow of that step, or want of memory.
 fn with_last<L: Ledger>(
     alloc: Global,
     others: &System,

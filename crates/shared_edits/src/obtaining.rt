@@ -26,10 +26,10 @@ use std::sync::ledger::Ledger;
 use std::sync::{Arc, Wait};
 
 impl Pool {
-    /// The system of the pool's edits without these numerical fields, or the overflow, as `fold_system`
-    /// tells them. The reader first walks what others published. A system that it then knows is shared;
-    /// another is made and published, or, where the reader is full, the caller's own. No step is counted
-    /// for fields whose system the reader knew before, where these are the first of the set.
+    /// The system of the pool's edits without these numerical fields. The fault is the first overflow, as
+    /// `fold_system` tells it, or want of memory. The reader first walks what others published. A system
+    /// that it then knows is shared. Another is made and published; where the reader is full, it is the
+    /// caller's own. No step is counted for first fields of the set whose system the reader knew before.
     pub fn obtain<R: Wait, L: Ledger>(
         &self,
         rt: &R,
@@ -61,10 +61,10 @@ impl Pool {
         }
     }
 
-    /// The system without one numerical field more than `before`, or the overflow. The field's number is
-    /// above those of all fields of `before`. The reader first walks what others published, and a system
-    /// that it then knows is shared. Another is made from `before` by one step, and published, or, where
-    /// the reader is full, the caller's own.
+    /// The system without one numerical field more than `before`; the fault is the overflow, or want of
+    /// memory. The field's number is above those of all fields of `before`. The reader first walks what
+    /// others published, and a system that it then knows is shared. Another is made from `before` by one
+    /// step, and published; where the reader is full, it is the caller's own.
     pub fn obtain_after<R: Wait, L: Ledger>(
         &self,
         rt: &R,
@@ -99,8 +99,8 @@ impl Pool {
         }
     }
 
-    // What the caller gets of a system that was made: it is published and shared, or the caller's own where
-    // the reader is full.
+    // Publishes a system that was made, and gives the caller a share of it. Where the reader is full, it is
+    // not published, and is the caller's own. Refused for want of memory, where the reader is as before.
     fn keep<R: Wait>(
         &self,
         rt: &R,

@@ -76,8 +76,8 @@ impl Pool {
         })
     }
 
-    // The entry of a system that another reader published, which `token` shows in this pool. Whether its
-    // edits are the pool's is compared here, once for all look-ups.
+    // An entry of this pool as this reader is to keep it, where another reader published it. `token` shows
+    // where it stands. Whether its edits are the pool's is compared here, once for all look-ups.
     fn entry_of(&self, token: Pushed<Arc<System>>) -> Entry
         requires { Shows self.now.entries token }
         ensures of { IsOf self.now (walked_of result) }

@@ -32,8 +32,8 @@ impl Model for Reader {
 }
 
 /// The entry of a system that the reader published itself, so that it is not walked again. `token` shows
-/// where it stands, `fields` are those that it is without, and it has `lines` lines. Its edits are the
-/// pool's.
+/// where it stands, `fields` are those that the system is without, and `lines` is how many lines it has. Its
+/// edits are the pool's.
 pub(crate) fn own_entry(token: Pushed<Arc<System>>, fields: FieldSet, lines: u64) -> Entry
     requires system { IsSystem (arc_value token.value) }
     requires fields { fields ≡ (arc_value token.value).fields }
