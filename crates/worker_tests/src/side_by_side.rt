@@ -105,9 +105,9 @@ struct Seen {
     pool: Pool,
 }
 
-// What becomes of the records of the bytes `records`, by the rules of the bytes `rules`, which `workers`
-// workers edit. Each record ranks one donor, and each donor is given once. Bytes without a reading are
-// answered as refused memory.
+// Edits the records of a file by the rules of another, both given as bytes, with `workers` workers and this
+// gate. It gives what became of the records. Each record ranks one donor, and each donor is given once.
+// Bytes without a reading are answered as refused memory.
 fn edited<R: Threads + Wait + Sync, G: Gate>(
     rt: &R,
     alloc: Global,
@@ -151,13 +151,13 @@ fn edited<R: Threads + Wait + Sync, G: Gate>(
     })
 }
 
-// Whether the claim is of the row `row_no`, ranks the first record alone, and had this reply.
+// Whether the claim is of the row `row_no`, from 0, ranks row 0 alone, and was answered this donor, or nobody.
 fn is_claim(entry: &Entry, row_no: u32, reply: Option<u32>) -> bool {
     entry.row_no == row_no && entry.ranking.as_slice() == [0].as_slice() && entry.reply == reply
 }
 
-// Whether the record of this end was given the whole number `number` at the field. A record that was
-// given no values has none.
+// Whether the record of this end now has the whole number `number` at the field of that number, from 0. A
+// record that was given no values has none; a clean one has its own.
 fn has_number(end: &RowEnd, field: u32, number: i128) -> bool {
     let Some(gift) = &end.gift else {
         return false;
