@@ -21,7 +21,7 @@ use Rattle.edit_release.specs.declared.release.Release.{Release}
 abbrev pub AllGiven : List RowEnd → Type 0
 AllGiven ends = AllByRecursion (λ (end : RowEnd). IsSome end.gift) ends
 
--- what it writes and prints, as contracts see it
+-- what an edit writes and prints, as contracts see it: the bytes of a release
 abbrev pub written_in : Release → Written
 written_in r = record {
   proof = r.proof.items;

@@ -82,8 +82,9 @@ pub fn edit_sheet<
     )
 }
 
-// What is released of the records of a sheet: the texts of all files and the summary. The verdicts are
-// those on the lines of the rules, and the ends and the history of claims are those of the records.
+// What is released of the records of a sheet, which are edited: the texts of all files and the summary. The
+// verdicts are those on the lines of the rules. The ends say what became of each record, in row order, and
+// the history has their claims. Nothing is searched or decided here.
 fn release_of(
     alloc: Global,
     survey: &Survey,

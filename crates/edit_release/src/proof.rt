@@ -1,4 +1,5 @@
-//! The proof of an edit, made of its verdicts, ends and claims.
+//! The proof of an edit, made of its verdicts, ends and claims. In contracts, `said` and `said_of` are what
+//! the proof says of a record, and `refutation_by` is what it says of a line of the rules.
 ghost use Rattle.std.specs.Prelude.{◌≡◌, [], IfOk, None, map};
 ghost use Rattle.bound_cert.specs.declared.outcome.Outcome.TheVariants.{Change};
 ghost use Rattle.edit_release.specs.Edits.{proof_telling, refutation_by, said, said_of};
@@ -37,8 +38,8 @@ pub(crate) fn proof_of(
     })
 }
 
-// What the proof says of each line of the rules, in order: the steps that refute its negation, or nothing
-// where it is kept.
+// What the proof says of each line of the rules, in order: the steps that refute its negation where it was
+// dropped, and None where it is kept.
 fn all_refuted(
     alloc: Global,
     verdicts: Vec<Verdict>,
@@ -48,8 +49,8 @@ fn all_refuted(
     Ok(verdicts.into_iter().map(refutation_by).collect(alloc)?)
 }
 
-// What the proof says of a line: the steps that refute its negation, if it is dropped. None where it is
-// kept.
+// What the proof says of a line of the rules with this verdict: the steps that refute its negation, if it was
+// dropped. None where it is kept.
 fn refutation_by(verdict: Verdict) -> Option<Sequence<Step>>
     ensures { result ≡ refutation_by verdict }
 {
@@ -59,7 +60,7 @@ fn refutation_by(verdict: Verdict) -> Option<Sequence<Step>>
     }
 }
 
-// What the proof says of each record, in order.
+// What the proof says of each record, in row order.
 fn all_said(alloc: Global, ends: Vec<RowEnd>) -> Result<Vec<RowProof>, OutOfMemory>
     ensures { IfOk result (λ rows. rows.items ≡ map said ends.items) }
 {
@@ -70,8 +71,8 @@ fn all_said(alloc: Global, ends: Vec<RowEnd>) -> Result<Vec<RowProof>, OutOfMemo
     )
 }
 
-// What the proof says of a record. A clean record, whose change weighs nothing, is written with the empty
-// path. Any other is said as it ended.
+// What the proof says of a record that ended so. The path of a clean record, whose change weighs nothing, is
+// made the empty one, as proof files have it. Any other record is left as it is.
 fn said(alloc: Global, proof: RowProof) -> RowProof
     ensures { result ≡ said_of proof.outcome proof.gift }
 {
@@ -88,7 +89,7 @@ fn said(alloc: Global, proof: RowProof) -> RowProof
     }
 }
 
-// What is said of a clean record: a change of no fields, with the empty path.
+// What the proof says of a clean record: a change of no fields, with the empty path and this tree.
 fn clean(alloc: Global, cert: Cert) -> RowProof
     ensures outcome { result.outcome ≡ Change [] 0 cert }
     ensures gift { result.gift ≡ None }
