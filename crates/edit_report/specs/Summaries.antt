@@ -13,11 +13,11 @@ use Rattle.edit_report.specs.declared.end.RowEnd.{RowEnd}
 abbrev pub keeps_all : RowEnd → Bool
 keeps_all end = is_some end.gift && all_kept (path_found end.proof.outcome)
 
--- a record that was given other values
+-- a record that was given values, of which some are not its own
 abbrev pub is_changed : RowEnd → Bool
 is_changed end = is_some end.gift && not (all_kept (path_found end.proof.outcome))
 
--- a record that was given none
+-- a record that was given no values
 abbrev pub is_unresolved : RowEnd → Bool
 is_unresolved end = is_none end.gift
 
@@ -34,7 +34,7 @@ summary_words records clean changed unresolved weight =
     ++ (codes " unresolved " ++ (decimal unresolved
     ++ (codes " weight " ++ decimal weight))))))))
 
--- the line of these records
+-- the summary line of these records
 abbrev pub summary_of : SurveyParts → List RowEnd → List ℕ
 summary_of survey ends =
     summary_words (length ends) (length (filter keeps_all ends)) (length (filter is_changed ends))
@@ -48,6 +48,6 @@ has_donor entry = is_some entry.reply
 abbrev pub claims_of : List Entry → List ℕ
 claims_of history = codes "claims " ++ (decimal (length history) ++ (codes " given " ++ decimal (length (filter has_donor history))))
 
--- the two lines
+-- the two summary lines: that of the records, and that of the claims
 abbrev pub summary_lines : SurveyParts → List RowEnd → List Entry → List (List ℕ)
 summary_lines survey ends history = summary_of survey ends ∷ claims_of history ∷ []

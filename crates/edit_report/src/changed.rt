@@ -24,14 +24,16 @@ pub(crate) fn path_found(outcome: &Outcome) -> &[bool]
     }
 }
 
-/// Whether the path keeps all fields of which it says something. No memory.
+/// Whether the path keeps each field of which it says something, as an empty path does: the record is clean
+/// where it was given values. No memory.
 pub(crate) fn all_kept(path: &[bool]) -> bool
     ensures { result ≡ all_kept path.now }
 {
     path.iter().all(|changed| !*changed)
 }
 
-/// The set of the fields that the path changes. Those of which it says nothing are not in it. No memory.
+/// The set of the fields that the path changes, by their numbers in the survey. Fields of which the path says
+/// nothing are not in it. No memory.
 pub(crate) fn changed_set(survey: &Survey, path: &[bool]) -> FieldSet
     requires { length path.now ≤ length survey.now.fields }
     ensures { (f : ℕ) → has_number result f ≡ changes survey.now.fields path.now f }
@@ -47,7 +49,8 @@ pub(crate) fn changed_set(survey: &Survey, path: &[bool]) -> FieldSet
     set
 }
 
-/// The fields that the path changes, in path order: the order of their lines in the reasons file.
+/// The numbers in the survey of the fields that the path changes, in path order: the order of their lines in
+/// the reasons file.
 pub(crate) fn changed_fields(
     alloc: Global,
     survey: &Survey,
@@ -67,7 +70,7 @@ pub(crate) fn changed_fields(
     Ok(changed)
 }
 
-// The set, with this field too where `changed` is true.
+// The set with the field of this number more, where `changed` is true; else the set as it is.
 fn with_changed(set: FieldSet, field: u32, changed: bool) -> FieldSet
     requires { field < 64 }
     ensures { (f : ℕ) → has_number result f ≡ (has_number set f || ((field == f) && changed)) }
@@ -75,7 +78,7 @@ fn with_changed(set: FieldSet, field: u32, changed: bool) -> FieldSet
     if changed { set.with(field) } else { set }
 }
 
-// Appends the field where `changed` is true.
+// Appends the number of a field where `changed` is true; else nothing.
 fn push_if(changed: bool, fields: &mut Vec<u32>, field: u32) -> Result<(), OutOfMemory>
     ensures { OnOk result (fields.new.items ≡ (if changed then fields.old.items ++ field ∷ [] else fields.old.items)) }
 {
@@ -85,8 +88,8 @@ fn push_if(changed: bool, fields: &mut Vec<u32>, field: u32) -> Result<(), OutOf
     Ok(())
 }
 
-// Whether the path changes the field at this place in path order. False where the path is so short that it
-// says nothing of it.
+// Whether the path changes the field at this place in path order, from 0. False where the path is so short
+// that it says nothing of it.
 fn is_changed(path: &[bool], place: usize) -> bool
     ensures { result ≡ slice_index_or path.now place false }
 {

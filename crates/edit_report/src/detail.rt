@@ -1,5 +1,5 @@
 //! Why a record is not released, in a few words of the reasons file. Places are counted from 0 in the code,
-//! and told from 1.
+//! and told from 1. The `gift` of a `RowProof` is the fault for which a change was given no values.
 ghost use Rattle.std.specs.Prelude.{◌≡◌, ◌<◌, ◌++◌, IfOk, IfSome, None, OnOk, codes, decimal, length};
 ghost use Rattle.bound_cert.specs.Paths.{named, path_text};
 ghost use Rattle.edit_report.specs.Reasons.{cause_text, detail_text, event_text, giving_text, name_of, place_text};
@@ -68,8 +68,8 @@ fn overflow_text(
     Ok(text)
 }
 
-// Where a number left the range when values were given: `giving F line N`, with the field's name, or
-// `giving rule N`. No bytes where there is no fault.
+// Where a number left the range when values were given. It is `giving F line N` for a bound of the field
+// named F, or `giving rule N` for the final test by a rule. No bytes where there is no fault.
 fn giving_text(
     alloc: Global,
     survey: &Survey,
@@ -133,7 +133,7 @@ fn push_place(text: &mut Vec<u8>, survey: &Survey, place: &Place) -> Result<(), 
     Ok(())
 }
 
-// Adds the number of a place that is counted from 0, as it is told: from 1.
+// Adds in decimal the number of a line or a rule that is counted from 0, as it is told: from 1.
 fn push_number(text: &mut Vec<u8>, place: u64) -> Result<(), OutOfMemory>
     ensures { OnOk result (text.new.items ≡ text.old.items ++ named place) }
 {
@@ -141,7 +141,7 @@ fn push_number(text: &mut Vec<u8>, place: u64) -> Result<(), OutOfMemory>
     Ok(())
 }
 
-/// The number of a record or a donor that is counted from 0, as it is told: from 1.
+/// The number of a record or a donor that is counted from 0, in decimal as it is told: from 1.
 pub(crate) fn number_text(alloc: Global, place: u32) -> Result<Vec<u8>, OutOfMemory>
     ensures { IfOk result (λ text. text.items ≡ named place) }
 {

@@ -62,8 +62,8 @@ fn records_line(alloc: Global, survey: &Survey, ends: &[RowEnd]) -> Result<Vec<u
     summary_line(alloc, ends.len(), clean, changed, unresolved, weight)
 }
 
-/// The line of the records, without its line feed: how many there are, and how many of them are clean,
-/// changed and not resolved. The weight is the sum of the weights of the changes.
+/// The text of the line of the records, without its line feed, from its five numbers: how many records there
+/// are, and how many of them are clean, changed and unresolved. The weight is that of all changes together.
 pub fn summary_line(
     alloc: Global,
     records: usize,
@@ -79,7 +79,7 @@ pub fn summary_line(
     )?.into_bytes())
 }
 
-// What the changes of all changed records weigh together. No memory.
+// The sum of the weights of the changes, over the records that were given other values. No memory.
 fn weight_of_changes(survey: &Survey, ends: &[RowEnd]) -> u128
     requires { AllByRecursion (IsEnd survey.now.fields) ends.now }
     ensures { result ≡ sum_by (weight_of survey.now.fields) (filter is_changed ends.now) }

@@ -23,7 +23,8 @@ pub(crate) fn text_at(
     value_text(alloc, &fields[field as usize].kind, row.value(field))
 }
 
-// The text of a value of a field of this kind. Nothing for no value, or for a code at a numerical field.
+// The text of a value of a field of this kind. No bytes for a missing value, or for a code at a numerical
+// field.
 fn value_text(alloc: Global, kind: &Kind, value: &Value) -> Result<Vec<u8>, OutOfMemory>
     ensures { IfOk result (λ text. text.items ≡ value_text kind.now value.now) }
 {
