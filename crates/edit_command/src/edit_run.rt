@@ -91,8 +91,9 @@ pub fn run_classed<R: Threads + Wait + Sync, D: Desk, P: Printer, G: Gate>(
     )
 }
 
-// Edits the records that the words name, by the classes of the field named `class`, or without classes
-// where that is None. It prints the summary, or why the run is refused, and answers the status of the run.
+// The run of both commands. It edits the records that the words name, by the classes of the field named
+// `class`, or without classes where that is None. It prints the summary, or why the run is refused, and
+// answers the status of the run.
 fn run<'a, R: Threads + Wait + Sync, D: Desk, P: Printer, G: Gate>(
     rt: &R,
     alloc: Global,
@@ -129,9 +130,9 @@ fn status_of(release: &Release) -> Status
     }
 }
 
-// Does on the desk all that an edit does there, up to the first fault: fetches, edits, and stores the
-// release, which it then answers. Refused where a file can't be had or read, no categorical field has the
-// name asked for, a store fails, or memory is refused.
+// Does all of a run but the printing, up to the first fault: it fetches the files, edits the records, and
+// stores the release, which it then answers. Refused where a file can't be had or has no reading, no
+// categorical field has the name asked for, a store fails, or memory is refused.
 fn edit<'a, R: Threads + Wait + Sync, D: Desk, G: Gate>(
     rt: &R,
     alloc: Global,
