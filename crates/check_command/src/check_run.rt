@@ -48,9 +48,9 @@ pub fn run_check<D: Desk, P: Printer>(
     }
 }
 
-// Does on the desk all that a check does there, up to the first fault. It gives the line that is printed
-// of a valid release. Refused where a file can't be read, is too long or has no reading, where the release
-// is not valid, and for want of memory.
+// Does all of a run but the printing, up to the first fault: it fetches the four files, and audits the
+// release. It gives the line that is printed of a valid one. Refused where a file can't be read, is too
+// long or has no reading, where the release is not valid, and for want of memory.
 fn check<'a, D: Desk>(
     alloc: Global,
     asked: &CheckWords<'a>,

@@ -52,8 +52,9 @@ pub fn run_make<D: Desk, P: Printer>(
     }
 }
 
-// Does on the desk all that the command does there, up to the first fault, and gives the texts that it
-// stored. Refused where a store fails, and for want of memory.
+// Does all of a run but the printing, up to the first fault: it makes the survey and stores both files. It
+// gives the texts that it stored, and the line to be printed. Refused where a store fails, and for want of
+// memory.
 fn make<'a, D: Desk>(
     alloc: Global,
     asked: &MakeWords<'a>,

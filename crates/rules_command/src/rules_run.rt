@@ -50,8 +50,9 @@ pub fn run_rules<D: Desk, P: Printer>(
     }
 }
 
-// Fetches the rules that the words name, and gives the lines that are printed of them. Refused where the
-// file has no reading, can't be read or is too long, and for want of memory.
+// Does all of a run but the printing: it fetches the rules that the words name, and gives the lines that are
+// printed of them. Refused where the file has no reading, can't be read or is too long, and for want of
+// memory.
 fn rules<'a, D: Desk>(
     alloc: Global,
     asked: &RulesWords<'a>,
@@ -72,9 +73,9 @@ fn rules<'a, D: Desk>(
     Ok(lines)
 }
 
-// The lines that are printed of the survey's rules, without line feeds. Dropped lines follow from the kept
-// ones, as their steps show. A line kept as needed can fail where those hold that were left when it was
-// tried. Each equality is kept as one.
+// The lines that are printed of the survey's rules, without line feeds: each tells whether a line of the
+// rules is kept or dropped. Dropped ones follow from the kept ones, as their steps show. One kept as needed
+// can fail where those hold that were left when it was tried. Each equality is kept as one.
 fn lines_of(alloc: Global, survey: &Survey) -> Result<Vec<Vec<u8>>, OutOfMemory>
     ensures texts { IfOk result (λ lines. texts_in lines.items ≡ report_of survey.now) }
     ensures dropped { IfOk result (λ lines. AllFollow (normal_lines_of survey.now) (rule_flags survey.now)) }

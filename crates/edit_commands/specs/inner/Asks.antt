@@ -14,27 +14,27 @@ texts_of words = map string_bytes words
 abbrev pub AsksNoEdit : List (String Global) → Type 0
 AsksNoEdit words = (other : EditAsked) → ¬ IsEdit (texts_of words) other
 
--- for no edit by classes
+-- the words ask for no edit by classes
 abbrev pub AsksNoClassed : List (String Global) → Type 0
 AsksNoClassed words = (other : ClassedAsked) → ¬ IsClassed (texts_of words) other
 
--- for no check
+-- the words ask for no check
 abbrev pub AsksNoCheck : List (String Global) → Type 0
 AsksNoCheck words = (other : CheckAsked) → ¬ IsCheck (texts_of words) other
 
--- nothing about rules
+-- the words ask for nothing about rules
 abbrev pub AsksNoRules : List (String Global) → Type 0
 AsksNoRules words = (other : RulesAsked) → ¬ IsRules (texts_of words) other
 
--- for no filling
+-- the words ask for no filling
 abbrev pub AsksNoFill : List (String Global) → Type 0
 AsksNoFill words = (other : FillAsked) → ¬ IsFill (texts_of words) other
 
--- for no panel
+-- the words ask for no panel
 abbrev pub AsksNoPanel : List (String Global) → Type 0
 AsksNoPanel words = (other : PanelAsked) → ¬ IsPanel (texts_of words) other
 
--- for no survey that is made
+-- the words ask for no survey that is made
 abbrev pub AsksNoMake : List (String Global) → Type 0
 AsksNoMake words = (other : MakeAsked) → ¬ IsMake (texts_of words) other
 
