@@ -66,7 +66,7 @@ fn plain_bucket(scale: u64, x: &Fraction) -> u128
     ensures is { result ≡ number_bucket scale x.now }
     ensures few { result ≤ 2 * 10 ^ 24 }
 {
-    counted(bucket_of(scale, x))
+    count_from_lowest(bucket_of(scale, x))
 }
 
 // The bucket of a plain number: how many thousandths of the scale it is, rounded down.
@@ -109,7 +109,7 @@ fn floor_quotient(size: i128, unit: i128) -> i128
 
 // The number of a bucket, counted from -10^24 on, so that it is at least 0. No plain number has a lower
 // bucket.
-fn counted(bucket: i128) -> u128
+fn count_from_lowest(bucket: i128) -> u128
     requires { unsigned_abs bucket ≤ 10 ^ 24 }
     ensures is { result ≡ unsigned_abs (bucket +ℤ pos (10 ^ 24)) }
     ensures few { result ≤ 2 * 10 ^ 24 }
@@ -126,15 +126,15 @@ pub fn mark_of(scale: Option<u64>, value: &Value) -> u16
     ensures { IsPlainValue value.now → result ≡ mark_of scale value.now }
 {
     match scale {
-        Some(scale) => folded(bucket_no(scale, value) + MIDDLE),
-        None => folded(1001 * u128::from(value.code_number())),
+        Some(scale) => fold_to_mark(bucket_no(scale, value) + MIDDLE),
+        None => fold_to_mark(1001 * u128::from(value.code_number())),
     }
 }
 
 // The mark of a number, which is a bucket or stands for a code: the number folded into 16 bits. As numbers
 // rise, marks run up from 0 to 2^16 - 1, then down again, and so on. So two marks never differ more than
 // their numbers do.
-fn folded(number: u128) -> u16
+fn fold_to_mark(number: u128) -> u16
     ensures { result ≡ folded number }
 {
     let up = number % PERIOD;
@@ -144,21 +144,21 @@ fn folded(number: u128) -> u16
 /// How many whole buckets lie between two buckets, at most 1000; 0 where they are the same or neighbours.
 /// The distance of two numbers is at least that, times the weight of their field. No memory.
 #[inline(always)]
-pub fn apart_by_buckets(first: u128, second: u128) -> u64
+pub fn whole_buckets_between(first: u128, second: u128) -> u64
     ensures { result ≡ min 1000 (abs_diff first second - 1) }
 {
     let apart = first.abs_diff(second);
     if apart > 1000 {
         1000
     } else {
-        between(apart as u64)
+        one_less(apart as u64)
     }
 }
 
-// How many whole buckets lie between one and another that is `apart` buckets further: one less, and 0 where
-// both are the same.
+// How many whole buckets lie between one bucket and another that is `apart` further: one less than `apart`,
+// and 0 where both are the same.
 #[inline(always)]
-fn between(apart: u64) -> u64
+fn one_less(apart: u64) -> u64
     requires { apart ≤ 1000 }
     ensures { result ≡ apart - 1 }
 {

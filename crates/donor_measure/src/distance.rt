@@ -145,8 +145,8 @@ fn fraction_distance(scale: u64, x: &Fraction, y: &Fraction) -> u64
     ensures distance { result ≡ min 1000 (thousandths_apart scale x.now y.now) }
     ensures few { result ≤ 1000 }
 {
-    let unit = u128::from(size(x) * size(y)) * u128::from(scale);
-    thousandths(apart(x, y), unit)
+    let unit = u128::from(denominator_of(x) * denominator_of(y)) * u128::from(scale);
+    thousandths(cross_difference(x, y), unit)
 }
 
 // How many thousandths of `unit` the number `size` is, rounded down and at most 1000. Most sizes are at
@@ -179,28 +179,28 @@ fn thousandths_in_words(size: u64, unit: u64) -> u64
 }
 
 // How far two numbers are apart, times the product of their denominators, which makes it whole.
-fn apart(x: &Fraction, y: &Fraction) -> u128
+fn cross_difference(x: &Fraction, y: &Fraction) -> u128
     requires first { IsPlain x.now }
     requires second { IsPlain y.now }
     ensures apart { result ≡ unsigned_abs (x.now.numerator *ℤ y.now.denominator -ℤ y.now.numerator *ℤ x.now.denominator) }
     ensures few { result < 2 * 10 ^ 27 }
 {
-    cross(x, y).abs_diff(cross(y, x))
+    cross_product(x, y).abs_diff(cross_product(y, x))
 }
 
 // The numerator of `x` times the denominator of `y`: one of the two products by whose difference `x` and `y`
 // are apart.
-fn cross(x: &Fraction, y: &Fraction) -> i128
+fn cross_product(x: &Fraction, y: &Fraction) -> i128
     requires first { IsPlain x.now }
     requires second { IsPlain y.now }
     ensures product { result ≡ x.now.numerator *ℤ y.now.denominator }
     ensures few { unsigned_abs result < 10 ^ 27 }
 {
-    x.numerator() * i128::from(size(y))
+    x.numerator() * i128::from(denominator_of(y))
 }
 
 // The denominator of a number, in a word of 64 bits, which is multiplied faster than one of 128.
-fn size(x: &Fraction) -> u64
+fn denominator_of(x: &Fraction) -> u64
     requires { IsPlain x.now }
     ensures size { x.now.denominator ≡ pos result }
     ensures some { 1 ≤ result }

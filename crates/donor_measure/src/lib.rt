@@ -8,7 +8,7 @@ mod distance;
 mod measure;
 mod yardstick;
 
-pub use bucket::{apart_by_buckets, bucket_no, mark_of};
+pub use bucket::{bucket_no, mark_of, whole_buckets_between};
 pub use distance::field_distance;
 pub use measure::Measure;
 pub use yardstick::{Yardstick, Yardsticks};

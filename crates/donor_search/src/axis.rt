@@ -8,7 +8,7 @@ ghost use Rattle.donor_search.specs.Asked.{index_field};
 ghost use Rattle.donor_search.specs.inner.Searches.{IsAxis};
 ghost use Rattle.donor_search.specs.inner.Spans.{bucket_gap_at};
 
-use donor_measure::{Yardsticks, apart_by_buckets};
+use donor_measure::{Yardsticks, whole_buckets_between};
 use edit_model::FieldSet;
 
 /// A kept numerical field, with its weight and its scale, by which its buckets are counted.
@@ -27,7 +27,7 @@ impl Axis {
         requires { self.weight ≤ most_weight }
         ensures { result ≡ bucket_gap_at self first second }
     {
-        u64::from(self.weight) * apart_by_buckets(first, second)
+        u64::from(self.weight) * whole_buckets_between(first, second)
     }
 }
 
