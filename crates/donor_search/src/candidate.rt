@@ -29,7 +29,7 @@ impl Candidate {
 
 /// Puts the candidate at its place among the nearest, of which no more than `near` stay. Where `near` others
 /// come before it, it is left out.
-pub(crate) fn put(
+pub(crate) fn insert_candidate(
     nearest: &mut Vec<Candidate>,
     candidate: Candidate,
     near: usize,

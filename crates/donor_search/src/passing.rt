@@ -12,7 +12,7 @@ ghost use Rattle.donor_search.specs.inner.Searches.{HasSlots, IsSearch, far_in, 
 ghost use Rattle.donor_search.specs.inner.Spans.{IsPast};
 
 use crate::candidate::{Candidate, farthest};
-use crate::profile::{Profile, Weighed, are_farther, is_farther_with, told_first};
+use crate::profile::{Profile, Weighed, are_farther, is_farther_with, least_distance_at_first};
 use crate::ranges::BLOCK;
 use crate::search::{Search, block_at, first_marks_in_walk, marks_in_walk};
 use crate::slot::Slot;
@@ -33,7 +33,7 @@ pub(crate) struct Passing<'a, F> {
 /// The span of slots of `field` that was walked over, widened on the side of `place`, which is next to it.
 /// It is widened by donors that follow one another and are farther than the last of the nearest, as their
 /// marks tell. It stays as it is while fewer are found than are asked for, or where none is asked for.
-pub(crate) fn past<F: Fn(u32, &Value, &Value) -> u64>(
+pub(crate) fn pass_far_donors<F: Fn(u32, &Value, &Value) -> u64>(
     search: &Search<F>,
     profile: &Profile,
     field: u32,
@@ -65,13 +65,13 @@ pub(crate) fn past<F: Fn(u32, &Value, &Value) -> u64>(
     };
     if place < span.low {
         Span {
-            low: far_below(&passing, span.low),
+            low: pass_downward(&passing, span.low),
             high: span.high,
         }
     } else {
         Span {
             low: span.low,
-            high: far_above(&passing, span.high),
+            high: pass_upward(&passing, span.high),
         }
     }
 }
@@ -80,7 +80,7 @@ pub(crate) fn past<F: Fn(u32, &Value, &Value) -> u64>(
 // answer is the place of the first that is not passed over. Only the block of `start` is looked at, so the
 // answer is at most its end, or that of the slots. A whole block that is far by its ranges is passed over
 // at once.
-fn far_above<F: Fn(u32, &Value, &Value) -> u64>(passing: &Passing<F>, start: usize) -> usize
+fn pass_upward<F: Fn(u32, &Value, &Value) -> u64>(passing: &Passing<F>, start: usize) -> usize
     requires passing { IsPassing F.Fn passing.now }
     requires start { start ≤ length (slots_of passing.now) }
     ensures from { start ≤ result }
@@ -104,7 +104,7 @@ fn far_above<F: Fn(u32, &Value, &Value) -> u64>(passing: &Passing<F>, start: usi
 // Passes over donors from below the place `end` downward, which their marks tell to be farther than `most`.
 // The answer is the place of the last that is passed over, and `end` where none is. Only the block right
 // below `end` is looked at. If that is far by its ranges, it is passed over at once.
-fn far_below<F: Fn(u32, &Value, &Value) -> u64>(passing: &Passing<F>, end: usize) -> usize
+fn pass_downward<F: Fn(u32, &Value, &Value) -> u64>(passing: &Passing<F>, end: usize) -> usize
     requires passing { IsPassing F.Fn passing.now }
     requires some { 1 ≤ end }
     requires end { end ≤ length (slots_of passing.now) }
@@ -135,7 +135,7 @@ fn is_far<F: Fn(u32, &Value, &Value) -> u64>(passing: &Passing<F>, place: usize)
 {
     let donor = passing.slots[place].donor;
     let first_marks = first_marks_in_walk(passing.search, passing.field, place, donor);
-    let first = told_first(passing.own, first_marks);
+    let first = least_distance_at_first(passing.own, first_marks);
     if u64::from(first) > passing.most {
         return true;
     }

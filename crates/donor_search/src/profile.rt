@@ -41,7 +41,7 @@ pub(crate) fn is_farther(own: &[Weighed], marks: &[u16], most: u64) -> bool
     requires weights { All (λ (w : AnyWeighed). w.weight ≤ most_weight) own.now }
     ensures { result ≡ true → most < told own.now marks.now }
 {
-    u64::from(told(own, marks)) > most
+    u64::from(least_distance(own, marks)) > most
 }
 
 /// Whether the marks of a donor tell that it is farther from a record than `most`. What those at the first
@@ -55,28 +55,28 @@ pub(crate) fn is_farther_with(own: &[Weighed], marks: &[u16], first: u32, most: 
     ensures { result ≡ true → most < told own.now marks.now }
 {
     let count = FIRST.min(own.len());
-    let rest = told(&own[count..], &marks[count..]);
+    let rest = least_distance(&own[count..], &marks[count..]);
     u64::from(first) + u64::from(rest) > most
 }
 
 /// How far a donor is at least, as its marks at the first eight fields tell. The case of fewer fields stands
 /// apart, so that the loop of the other has a fixed length.
 #[inline(always)]
-pub(crate) fn told_first(own: &[Weighed], first: &[u16]) -> u32
+pub(crate) fn least_distance_at_first(own: &[Weighed], first: &[u16]) -> u32
     requires first { length first.now ≡ min first_fields (length own.now) }
     requires few { length own.now ≤ most_fields }
     requires weights { All (λ (w : AnyWeighed). w.weight ≤ most_weight) own.now }
     ensures { result ≡ told own.now first.now }
 {
     if own.len() < FIRST {
-        return told(own, first);
+        return least_distance(own, first);
     }
-    told(&own[..FIRST], &first[..FIRST])
+    least_distance(&own[..FIRST], &first[..FIRST])
 }
 
 /// Of all marks of a donor those at the first eight fields, or all where there are fewer.
 #[inline(always)]
-pub(crate) fn first_of(marks: &[u16]) -> &[u16]
+pub(crate) fn first_marks_of(marks: &[u16]) -> &[u16]
     ensures { result.now ≡ take first_fields marks.now }
 {
     &marks[..FIRST.min(marks.len())]
@@ -85,7 +85,7 @@ pub(crate) fn first_of(marks: &[u16]) -> &[u16]
 // How far a donor is at least from the record with the marks `own`, as its marks tell: the sum over the
 // fields. All are looked at, since a test at each field would take more time than it spares.
 #[inline(always)]
-fn told(own: &[Weighed], marks: &[u16]) -> u32
+fn least_distance(own: &[Weighed], marks: &[u16]) -> u32
     requires equal { length own.now ≡ length marks.now }
     requires few { length own.now ≤ most_fields }
     requires weights { All (λ (w : AnyWeighed). w.weight ≤ most_weight) own.now }
@@ -93,7 +93,7 @@ fn told(own: &[Weighed], marks: &[u16]) -> u32
 {
     let mut sum = 0;
     for i in 0..own.len() {
-        sum += told_by(&own[i], marks[i]);
+        sum += least_distance_by_mark(&own[i], marks[i]);
     }
     sum
 }
@@ -101,7 +101,7 @@ fn told(own: &[Weighed], marks: &[u16]) -> u32
 // How far two values at a field are at least apart, as their marks tell, times the field's weight. Of marks
 // that differ by d that is d - 1, from 0 to 1000.
 #[inline(always)]
-fn told_by(own: &Weighed, mark: u16) -> u32
+fn least_distance_by_mark(own: &Weighed, mark: u16) -> u32
     requires { own.now.weight ≤ most_weight }
     ensures told { result ≡ told_by own.now mark }
     ensures few { result ≤ most_weight * 1000 }
@@ -119,13 +119,13 @@ pub(crate) fn are_farther(own: &[Weighed], ranges: &[MarkRange], most: u64) -> b
     requires weights { All (λ (w : AnyWeighed). w.weight ≤ most_weight) own.now }
     ensures { result ≡ true → most < told_by_ranges own.now ranges.now }
 {
-    u64::from(told_by_ranges(own, ranges)) > most
+    u64::from(least_distance_by_ranges(own, ranges)) > most
 }
 
 // How far each donor of a block is at least from the record with the marks `own`. The block's ranges tell
 // it, as a sum over the fields.
 #[inline(always)]
-fn told_by_ranges(own: &[Weighed], ranges: &[MarkRange]) -> u32
+fn least_distance_by_ranges(own: &[Weighed], ranges: &[MarkRange]) -> u32
     requires equal { length own.now ≡ length ranges.now }
     requires few { length own.now ≤ most_fields }
     requires weights { All (λ (w : AnyWeighed). w.weight ≤ most_weight) own.now }
@@ -133,7 +133,7 @@ fn told_by_ranges(own: &[Weighed], ranges: &[MarkRange]) -> u32
 {
     let mut sum = 0;
     for i in 0..own.len() {
-        sum += told_by_range(&own[i], &ranges[i]);
+        sum += least_distance_by_range(&own[i], &ranges[i]);
     }
     sum
 }
@@ -141,7 +141,7 @@ fn told_by_ranges(own: &[Weighed], ranges: &[MarkRange]) -> u32
 // How far the record's value at a field is at least from any of a block, times the field's weight. Its mark
 // and the block's range tell it; a mark within the range tells nothing, and gives 0.
 #[inline(always)]
-fn told_by_range(own: &Weighed, range: &MarkRange) -> u32
+fn least_distance_by_range(own: &Weighed, range: &MarkRange) -> u32
     requires { own.now.weight ≤ most_weight }
     ensures told { result ≡ told_by_range own.now range.now }
     ensures few { result ≤ most_weight * 1000 }

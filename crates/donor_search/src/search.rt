@@ -11,9 +11,9 @@ ghost use Rattle.donor_search.specs.inner.Profiles.{IsProfile};
 ghost use Rattle.donor_search.specs.inner.Searches.{IsSearch, far_in, yardsticks_in};
 ghost use Rattle.donor_search.specs.Rankings.{IsInOrder};
 
-use crate::candidate::{Candidate, farthest, put};
+use crate::candidate::{Candidate, farthest, insert_candidate};
 use crate::deck::Deck;
-use crate::profile::{FIRST, Profile, first_of, is_farther};
+use crate::profile::{FIRST, Profile, first_marks_of, is_farther};
 use crate::ranges::MarkRange;
 use donor_measure::Measure;
 use edit_model::{FieldSet, Row, Value};
@@ -59,7 +59,7 @@ pub(crate) fn rank<F: Fn(u32, &Value, &Value) -> u64, L: Ledger>(
             let distance = search
                 .measure
                 .between(search.row, values, search.kept, steps);
-            put(best, Candidate { distance, donor }, search.near)
+            insert_candidate(best, Candidate { distance, donor }, search.near)
         }
         Some(most) => {
             if is_farther(profile.as_slice(), marks, most) {
@@ -89,7 +89,7 @@ fn rank_within<F: Fn(u32, &Value, &Value) -> u64, L: Ledger>(
     let values = search.sheet.row(donor);
     let measure = search.measure;
     match measure.between_within(search.row, values, search.kept, most, steps) {
-        Some(distance) => put(best, Candidate { distance, donor }, search.near),
+        Some(distance) => insert_candidate(best, Candidate { distance, donor }, search.near),
         None => Ok(()),
     }
 }
@@ -162,7 +162,7 @@ pub(crate) fn first_marks_in_walk<'a, F>(
     if field == search.deck.first() {
         first_marks_at_place(search, place)
     } else {
-        first_of(marks_at(search, donor))
+        first_marks_of(marks_at(search, donor))
     }
 }
 

@@ -8,7 +8,7 @@ ghost use Rattle.donor_search.specs.inner.Searches.{AreRanked, IsAxis, IsSearch,
 
 use crate::axis::Axis;
 use crate::candidate::{Candidate, is_closed_at};
-use crate::passing::past;
+use crate::passing::pass_far_donors;
 use crate::profile::Profile;
 use crate::search::{Search, marks_in_walk, rank};
 use crate::span::Span;
@@ -46,7 +46,7 @@ pub(crate) fn walk<F: Fn(u32, &Value, &Value) -> u64, L: Ledger>(
         if is_closed_at(&nearest, search.near, axis.gap(bucket, slot.bucket)) {
             return Ok(nearest);
         }
-        let wider = past(search, profile, axis.field, span, place, &nearest);
+        let wider = pass_far_donors(search, profile, axis.field, span, place, &nearest);
         if wider.len() > span.len() {
             span = wider;
             continue;

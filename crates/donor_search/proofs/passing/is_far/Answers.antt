@@ -10,8 +10,8 @@ use Rattle.donor_search.specs.inner.Searches.{yardsticks_in}
 use Rattle.donor_search.proofs.ProfileLaws.{as_many_first, as_many_marks, farther_first, farther_told}
 use Rattle.donor_search.proofs.passing.is_far.Goals as goal
 
-pub told_first-first-requires-clause-first : goal.told_first-first-requires-clause-first
-told_first-first-requires-clause-first g c =
+pub least_distance_at_first-first-requires-clause-first : goal.least_distance_at_first-first-requires-clause-first
+least_distance_at_first-first-requires-clause-first g c =
     let s = c.args.passing.now.search.now in
     let ys = yardsticks_in s in
     let row = row_at s.sheet.now.rows (slot_at c.args.passing.now.slots.now c.args.place).donor in
@@ -28,7 +28,7 @@ returns-then-from-passing g c is =
     ap (λ (ss : List Slot). row_at s.sheet.now.rows (slot_at ss c.args.place).donor) c.requires.passing.walked in
     let first_is = c.first_marks_in_walk-first_marks.ensures ∙ ap (λ (r : List Value). take first_fields (marks_of ys r)) same in
     let more : c.args.passing.now.most < told c.args.passing.now.own.now c.first_marks_in_walk-first_marks.result.now =
-    omega (arith, c.if-from-passing.true, c.from.ensures, c.told_first-first.ensures) in
+    omega (arith, c.if-from-passing.true, c.from.ensures, c.least_distance_at_first-first.ensures) in
     farther_first ys s.kept s.row.now row c.args.passing.now.own.now
     (marks_of ys row) c.requires.passing.profile.weighed refl c.args.passing.now.most c.first_marks_in_walk-first_marks.result.now first_is
     c.requires.passing.profile.fit c.requires.passing.search.row can.1 more
@@ -43,7 +43,7 @@ is_farther_with-requires-clause-equal g c =
 
 pub is_farther_with-requires-clause-first : goal.is_farther_with-requires-clause-first
 is_farther_with-requires-clause-first g c =
-    c.told_first-first.ensures ∙ ap (told c.args.passing.now.own.now)
+    c.least_distance_at_first-first.ensures ∙ ap (told c.args.passing.now.own.now)
     (c.first_marks_in_walk-first_marks.ensures ∙ ap (take first_fields) (sym c.marks_in_walk-marks.ensures))
 
 pub returns : goal.returns

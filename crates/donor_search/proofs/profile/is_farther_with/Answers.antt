@@ -15,5 +15,5 @@ returns c is =
     let cut : take count marks ≡ take first_fields marks = ap (λ n. take n marks) (c.min-count.ensures ∙ ap (min first_fields) c.requires.equal)
     ∙ take_min first_fields marks in
     let first : c.args.first ≡ told own (take count marks) = c.requires.first ∙ ap (told own) (sym cut) in
-    let rest = c.told-rest.ensures ∙ told_rest count own marks in
+    let rest = c.least_distance-rest.ensures ∙ told_rest count own marks in
     omega (arith, more, first, rest, told_split count own marks, c.from.ensures, c.from-2.ensures)

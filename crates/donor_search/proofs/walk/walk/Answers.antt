@@ -68,13 +68,13 @@ returns-then-is_closed_at-clause-steps g c =
 pub returns-then-is_closed_at-clause-most : goal.returns-then-is_closed_at-clause-most
 returns-then-is_closed_at-clause-most g c = steps_all c.loop-slots.invariant.are c.loop-slots.invariant.walked
 
-pub past-wider-requires-clause-field : goal.past-wider-requires-clause-field
-past-wider-requires-clause-field g c =
+pub pass_far_donors-wider-requires-clause-field : goal.pass_far_donors-wider-requires-clause-field
+pass_far_donors-wider-requires-clause-field g c =
     let s = c.args.search.now in
     slots_rankable g.F.Fn s c.args.axis (slots_at s.deck.now.index c.args.axis.field) c.requires.search c.requires.axis refl
 
-pub past-wider-requires-clause-order : goal.past-wider-requires-clause-order
-past-wider-requires-clause-order g c =
+pub pass_far_donors-wider-requires-clause-order : goal.pass_far_donors-wider-requires-clause-order
+pass_far_donors-wider-requires-clause-order g c =
     let s = c.args.search.now in
     subst (λ (cs : List Candidate). IsInOrder is_before cs) (sym c.deref-in-loop-slots.ensures.value)
     (nearest_order s.near (map (candidate_of (far_in s)) c.loop-slots.invariant.walked.seen) c.loop-slots.nearest.items c.loop-slots.invariant.walked.ranked)
@@ -83,11 +83,11 @@ pub loop-slots-preserved-then-len : goal.loop-slots-preserved-then-len
 loop-slots-preserved-then-len g c =
     let s = c.args.search.now in
     let far : ℕ → ℕ = far_in s in
-    let new = c.past-wider.result in
+    let new = c.pass_far_donors-wider.result in
     let inv = c.loop-slots.invariant in
     let there : IsPast far s.near (slots_at s.deck.now.index c.args.axis.field) c.loop-slots.span c.loop-slots.nearest.items new =
     subst (λ (cs : List Candidate). IsPast far s.near (slots_at s.deck.now.index c.args.axis.field) c.loop-slots.span cs new)
-    c.deref-in-loop-slots.ensures.value c.past-wider.ensures in
+    c.deref-in-loop-slots.ensures.value c.pass_far_donors-wider.ensures in
     let is : IsPast far s.near c.slots-slots.result.now c.loop-slots.span c.loop-slots.nearest.items new =
     subst (λ (ss : List Slot). IsPast far s.near ss c.loop-slots.span c.loop-slots.nearest.items new) (sym c.slots-slots.ensures) there in
     record {

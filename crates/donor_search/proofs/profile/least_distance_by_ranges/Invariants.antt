@@ -1,6 +1,6 @@
 use Rattle.std.proofs.Common.{◌≡◌, ◌≤◌, ◌+◌, ◌*◌, drop}
 use Rattle.donor_search.specs.inner.Profiles.{told_by_ranges}
-use Rattle.donor_search.proofs.profile.told_by_ranges.Given as goal
+use Rattle.donor_search.proofs.profile.least_distance_by_ranges.Given as goal
 
 abbrev pub invariant-loop-i : goal.invariant-loop-i
 invariant-loop-i l = record {

@@ -1,6 +1,6 @@
 use Rattle.std.proofs.Common.{◌≡◌, ◌≤◌, ◌+◌, ◌*◌, drop}
 use Rattle.donor_search.specs.inner.Profiles.{told}
-use Rattle.donor_search.proofs.profile.told.Given as goal
+use Rattle.donor_search.proofs.profile.least_distance.Given as goal
 
 abbrev pub invariant-loop-i : goal.invariant-loop-i
 invariant-loop-i l = record {

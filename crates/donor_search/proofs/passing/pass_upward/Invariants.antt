@@ -1,6 +1,6 @@
 use Rattle.std.proofs.Common.{◌≤◌, ◌-◌, length}
 use Rattle.donor_search.specs.inner.Passings.{AreFar, slots_of}
-use Rattle.donor_search.proofs.passing.far_above.Given as goal
+use Rattle.donor_search.proofs.passing.pass_upward.Given as goal
 
 abbrev pub invariant-loop-place : goal.invariant-loop-place
 invariant-loop-place g l = record {

@@ -1,6 +1,6 @@
 use Rattle.std.proofs.Common.{◌≤◌}
 use Rattle.donor_search.specs.inner.Passings.{AreFar}
-use Rattle.donor_search.proofs.passing.far_below.Given as goal
+use Rattle.donor_search.proofs.passing.pass_downward.Given as goal
 
 abbrev pub invariant-loop-place : goal.invariant-loop-place
 invariant-loop-place g l = record {

@@ -2,7 +2,7 @@ use Rattle.std.proofs.Common.{arith, rules}
 use Rattle.donor_search.specs.inner.Passings.{slots_of}
 use Rattle.donor_search.specs.inner.Searches.{far_in}
 use Rattle.donor_search.proofs.PassingLaws.{farther_above}
-use Rattle.donor_search.proofs.passing.far_above.Goals as goal
+use Rattle.donor_search.proofs.passing.pass_upward.Goals as goal
 
 pub loop-place-preserved : goal.loop-place-preserved
 loop-place-preserved g c =
