@@ -48,7 +48,7 @@ pub(crate) fn end_of<F: Fn(u32, &Value, &Value) -> u64>(
             let change = Change { path, weight, cert };
             with_values::<F, Brand>(alloc, rest, row, change, donor, Blank::new(1))
         }
-        outcome => Ok(left_out(outcome, donor)),
+        outcome => Ok(end_without_change(outcome, donor)),
     }
 }
 
@@ -156,7 +156,7 @@ fn without_values(change: Change, donor: Option<u32>, fault: GiftFault) -> RowEn
 
 // The end of a record for which no change was found: it has the outcome of its search, no values, and no
 // fault of giving them.
-fn left_out(outcome: Outcome, donor: Option<u32>) -> RowEnd
+fn end_without_change(outcome: Outcome, donor: Option<u32>) -> RowEnd
     ensures outcome { result.proof.outcome ≡ outcome }
     ensures none { (result.proof.gift ≡ None) × (result.donor ≡ donor) × (result.gift ≡ None) }
 {

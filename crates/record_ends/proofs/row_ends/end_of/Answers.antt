@@ -9,11 +9,11 @@ returns g c =
     let rows = rows_in rest in
     let piece = c.args.piece in
     let row = row_at rows piece.row_no in
-    let told = c.left_out.ensures in
+    let told = c.end_without_change.ensures in
     let case = rw c.row-row.ensures at c.case_known.ensures.case in
     let none : IsNoChange piece.outcome = λ path weight cert e. c.in_default.not-Change path weight cert e in
     let both = left-out rest.survey (edits_in rest) row rest.budget case (c.requires.rest.same row) rows piece.outcome
-    c.left_out.result c.requires.piece.outcome none told.outcome told.none.0 told.none.2 in
+    c.end_without_change.result c.requires.piece.outcome none told.outcome told.none.0 told.none.2 in
     record {
       outcome = told.outcome;
       given = told.none.1;
