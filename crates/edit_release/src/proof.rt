@@ -31,16 +31,16 @@ pub(crate) fn proof_of(
         limit: terms.limit,
         near: terms.near,
         budget: terms.budget,
-        verdicts: Sequence::from_vec(all_refuted(alloc, verdicts)?),
+        verdicts: Sequence::from_vec(refutations_of(alloc, verdicts)?),
         table: Sequence::from_vec(Vec::new(alloc)),
-        rows: Sequence::from_vec(all_said(alloc, ends)?),
+        rows: Sequence::from_vec(row_proofs_of(alloc, ends)?),
         claims: Sequence::from_vec(history),
     })
 }
 
 // What the proof says of each line of the rules, in order: the steps that refute its negation where it was
 // dropped, and None where it is kept.
-fn all_refuted(
+fn refutations_of(
     alloc: Global,
     verdicts: Vec<Verdict>,
 ) -> Result<Vec<Option<Sequence<Step>>>, OutOfMemory>
@@ -61,19 +61,19 @@ fn refutation_by(verdict: Verdict) -> Option<Sequence<Step>>
 }
 
 // What the proof says of each record, in row order.
-fn all_said(alloc: Global, ends: Vec<RowEnd>) -> Result<Vec<RowProof>, OutOfMemory>
+fn row_proofs_of(alloc: Global, ends: Vec<RowEnd>) -> Result<Vec<RowProof>, OutOfMemory>
     ensures { IfOk result (λ rows. rows.items ≡ map said ends.items) }
 {
     Ok(
         ends.into_iter()
-            .map(|end| said(alloc, end.proof))
+            .map(|end| row_proof_of(alloc, end.proof))
             .collect(alloc)?,
     )
 }
 
 // What the proof says of a record that ended so. The path of a clean record, whose change weighs nothing, is
 // made the empty one, as proof files have it. Any other record is left as it is.
-fn said(alloc: Global, proof: RowProof) -> RowProof
+fn row_proof_of(alloc: Global, proof: RowProof) -> RowProof
     ensures { result ≡ said_of proof.outcome proof.gift }
 {
     match (proof.outcome, proof.gift) {
@@ -84,13 +84,13 @@ fn said(alloc: Global, proof: RowProof) -> RowProof
                 ..
             },
             None,
-        ) => clean(alloc, cert),
+        ) => clean_row_proof(alloc, cert),
         (outcome, gift) => RowProof { outcome, gift },
     }
 }
 
 // What the proof says of a clean record: a change of no fields, with the empty path and this tree.
-fn clean(alloc: Global, cert: Cert) -> RowProof
+fn clean_row_proof(alloc: Global, cert: Cert) -> RowProof
     ensures outcome { result.outcome ≡ Change [] 0 cert }
     ensures gift { result.gift ≡ None }
 {
