@@ -26,7 +26,7 @@ pub(crate) fn path_found(outcome: &Outcome) -> &[bool]
 
 /// Whether the path keeps each field of which it says something, as an empty path does: the record is clean
 /// where it was given values. No memory.
-pub(crate) fn all_kept(path: &[bool]) -> bool
+pub(crate) fn keeps_every_field(path: &[bool]) -> bool
     ensures { result ≡ all_kept path.now }
 {
     path.iter().all(|changed| !*changed)

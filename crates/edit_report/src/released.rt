@@ -12,7 +12,7 @@ ghost use Rattle.edit_report.specs.Released.{column_text, released_text_of, rele
 ghost use Rattle.edit_report.specs.Layouts.{IsLayout};
 ghost use Rattle.edit_report.specs.inner.Columns.{column_at, layout_texts};
 
-use crate::changed::{all_kept, changed_set, path_found};
+use crate::changed::{changed_set, keeps_every_field, path_found};
 use crate::end::RowEnd;
 use crate::layout::Layout;
 use crate::value_text::text_at;
@@ -86,7 +86,7 @@ fn push_row(
     ensures { OnOk result
         (writer.new ≡ writer.old ++ records_text (layout_texts survey.now.fields layout.now path.now new.now read.now ∷ [])) }
 {
-    if all_kept(path) {
+    if keeps_every_field(path) {
         return writer.push(read);
     }
     let texts = released_texts(alloc, survey, layout, read, path, new)?;

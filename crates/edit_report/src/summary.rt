@@ -7,7 +7,7 @@ ghost use Rattle.bound_cert.specs.Trees.{all_kept};
 ghost use Rattle.edit_report.specs.Ends.{IsEnd, path_found};
 ghost use Rattle.edit_report.specs.Summaries.{claims_of, is_changed, keeps_all, has_donor, is_unresolved, summary_lines, summary_of, summary_words, weight_of};
 
-use crate::changed::{all_kept, path_found};
+use crate::changed::{keeps_every_field, path_found};
 use crate::end::RowEnd;
 use bound_cert::Outcome;
 use donor_book::Entry;
@@ -108,7 +108,7 @@ fn path_weight(survey: &Survey, outcome: &Outcome) -> u64
     requires { length (path_found outcome.now) ≤ length survey.now.fields }
     ensures { result ≡ (if not (all_kept (path_found outcome.now)) then path_weight survey.now.fields (path_found outcome.now) else 0) }
 {
-    if all_kept(path_found(outcome)) {
+    if keeps_every_field(path_found(outcome)) {
         return 0;
     }
     match outcome {
@@ -123,12 +123,12 @@ fn path_weight(survey: &Survey, outcome: &Outcome) -> u64
 fn is_clean(end: &RowEnd) -> bool
     ensures { result ≡ keeps_all end.now }
 {
-    end.gift.is_some() && all_kept(path_found(&end.proof.outcome))
+    end.gift.is_some() && keeps_every_field(path_found(&end.proof.outcome))
 }
 
 // Whether the record was given values, and its path changes some field. No memory.
 fn is_changed(end: &RowEnd) -> bool
     ensures { result ≡ is_changed end.now }
 {
-    end.gift.is_some() && !all_kept(path_found(&end.proof.outcome))
+    end.gift.is_some() && !keeps_every_field(path_found(&end.proof.outcome))
 }
