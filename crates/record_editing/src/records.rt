@@ -28,7 +28,7 @@ use foundation::OutOfMemory;
 use record_ends::give_all;
 use record_pieces::{Decks, Rest};
 use record_text::Sheet;
-use record_workers::{Gate, Gathered, run_all, shared_by};
+use record_workers::{Gate, Gathered, ready_workers, run_all};
 use shared_edits::Pool;
 use std::alloc::Global;
 use std::sync::{Arc, Wait};
@@ -115,7 +115,7 @@ fn edit_by<R: Threads + Wait + Sync, F: Fn(u32, &Value, &Value) -> u64 + Send + 
     ensures order { IfOk result (λ edited. workers ≡ 1
         → AreInOrder rest.survey (rows_in rest) (class_field_in rest) edited.ends.items edited.history.items) }
 {
-    let (shared, ready) = shared_by(alloc, rest, limit, workers)?;
+    let (shared, ready) = ready_workers(alloc, rest, limit, workers)?;
     let Gathered {
         pieces,
         history,

@@ -55,7 +55,7 @@ pub fn run_all<R: Threads + Wait + Sync, F: Fn(u32, &Value, &Value) -> u64 + Sen
     ensures classes { IfOk result (λ gathered. AnswersInClasses shared.books.terms.limit (last_class shared)
         (length workers.items ≡ 1) gathered.pieces.items gathered.history.items) }
 {
-    let ran = all_run(rt, alloc, &shared, workers, gate)?;
+    let ran = run_each(rt, alloc, &shared, workers, gate)?;
     let Shared {
         rest,
         tickets,
@@ -80,7 +80,7 @@ pub fn run_all<R: Threads + Wait + Sync, F: Fn(u32, &Value, &Value) -> u64 + Sen
 
 // Lets all workers run, and gives them back in their order when each has ended. Where memory was refused to
 // some worker, that is the answer, and no worker comes back.
-fn all_run<R: Threads + Wait + Sync, F: Fn(u32, &Value, &Value) -> u64 + Send + Sync, G: Gate>(
+fn run_each<R: Threads + Wait + Sync, F: Fn(u32, &Value, &Value) -> u64 + Send + Sync, G: Gate>(
     rt: &R,
     alloc: Global,
     shared: &Shared<F>,

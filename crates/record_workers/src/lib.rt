@@ -1,5 +1,5 @@
 //! Workers that draw the records of a sheet side by side. Each searches a record and claims a donor for it,
-//! before it draws the next. Begin with [`shared_by`], which makes workers ready, and [`run_all`], which
+//! before it draws the next. Begin with [`ready_workers`], which makes workers ready, and [`run_all`], which
 //! lets them run; what one of them does is in `specs/Workers.antt`.
 #![tactic(auto)]
 
@@ -14,6 +14,6 @@ mod worker;
 
 pub use gate::{Gate, NoGate};
 pub use gathered::{Gathered, run_all};
-pub use ready::shared_by;
+pub use ready::ready_workers;
 pub use shared::Shared;
 pub use worker::Worker;

@@ -22,7 +22,7 @@ use ticket_row::{Seat, Tickets};
 /// What workers share, and these workers, which have done nothing yet. `workers` says how many there are,
 /// from 1 to 64. A donor is given at most `limit` times. Each row of the sheet has a ticket, and each class a
 /// book of claims.
-pub fn shared_by<F: Fn(u32, &Value, &Value) -> u64>(
+pub fn ready_workers<F: Fn(u32, &Value, &Value) -> u64>(
     alloc: Global,
     rest: Rest<F>,
     limit: u32,

@@ -4,7 +4,7 @@ use Rattle.shared_edits.specs.Pools.{IsOf, IsReaderOf}
 use Rattle.record_workers.specs.Workers.{IsReady}
 use Rattle.record_workers.specs.inner.Gatherings.{IsReadyAt}
 use Rattle.record_workers.proofs.BookLaws.{classes-within}
-use Rattle.record_workers.proofs.ready.shared_by.Goals as goal
+use Rattle.record_workers.proofs.ready.ready_workers.Goals as goal
 
 pub share-requires-clause-classes : goal.share-requires-clause-classes
 share-requires-clause-classes g c =

@@ -4,7 +4,7 @@ use Rattle.std.proofs.lemmas.List.Elements.{All-head, All-push, All-tail}
 use Rattle.foundation.specs.declared.memory.OutOfMemory.{OutOfMemory}
 use Rattle.record_workers.specs.declared.worker.Worker.{Worker}
 use Rattle.record_workers.specs.inner.Gatherings.{HasRun}
-use Rattle.record_workers.proofs.gathered.all_run.Goals as goal
+use Rattle.record_workers.proofs.gathered.run_each.Goals as goal
 
 pub loop-worker-preserved : goal.loop-worker-preserved
 loop-worker-preserved g c =

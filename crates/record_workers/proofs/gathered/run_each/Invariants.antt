@@ -2,7 +2,7 @@ use Rattle.std.proofs.Common.{◌≡◌, ◌+◌, length}
 use Rattle.std.specs.List.{All}
 use Rattle.std.specs.Prelude.{IfOk}
 use Rattle.record_workers.specs.inner.Gatherings.{HasRun}
-use Rattle.record_workers.proofs.gathered.all_run.Given as goal
+use Rattle.record_workers.proofs.gathered.run_each.Given as goal
 
 abbrev pub invariant-loop-worker : goal.invariant-loop-worker
 invariant-loop-worker g l = record {
