@@ -46,7 +46,7 @@ impl Pool {
             return fold_system(alloc, self.edits(), fields, steps);
         };
         let others = fields.without(last);
-        if let Some(system) = self.known(entries, others) {
+        if let Some(system) = self.known_system(entries, others) {
             return with_last(alloc, system, fields, last, steps);
         }
         match self.make(alloc, entries, others, steps) {

@@ -56,7 +56,7 @@ impl Pool {
             return Ok(Held::Shared(share(system)?));
         }
         match self.make(alloc, &reader.walked, fields, steps) {
-            Ok(system) => Ok(self.keep(rt, alloc, reader, system)?),
+            Ok(system) => Ok(self.publish_or_keep(rt, alloc, reader, system)?),
             Err(fault) => Err(fault),
         }
     }
@@ -94,14 +94,14 @@ impl Pool {
             return Ok(Held::Shared(share(system)?));
         }
         match extend(alloc, before, field, steps) {
-            Ok(system) => Ok(self.keep(rt, alloc, reader, system)?),
+            Ok(system) => Ok(self.publish_or_keep(rt, alloc, reader, system)?),
             Err(fault) => Err(fault),
         }
     }
 
     // Publishes a system that was made, and gives the caller a share of it. Where the reader is full, it is
     // not published, and is the caller's own. Refused for want of memory, where the reader is as before.
-    fn keep<R: Wait>(
+    fn publish_or_keep<R: Wait>(
         &self,
         rt: &R,
         alloc: Global,

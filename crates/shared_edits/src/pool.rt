@@ -104,7 +104,7 @@ impl Pool {
 
     /// The system without these fields, if it is that of a walked entry with the pool's edits; else None.
     /// The reader walks no further.
-    pub(crate) fn known<'a>(
+    pub(crate) fn known_system<'a>(
         &'a self,
         entries: &WalkedEntries,
         fields: FieldSet,
@@ -166,7 +166,7 @@ impl Pool {
         ensures none { IfNone result (¬ Knows self.now fields reader.new) }
     {
         self.walk(reader);
-        self.known(&reader.walked, fields)
+        self.known_system(&reader.walked, fields)
     }
 
     /// Stores a system of the pool's edits for all readers. It comes back as `Full` where this reader has

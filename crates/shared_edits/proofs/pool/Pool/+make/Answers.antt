@@ -19,12 +19,12 @@ returns-in_default-clause-onwards g t c = λ first firsts knows.
     let same : first ≡ c.args.fields = first-none first (subst (λ (set : ℕ). IsFirstOf first set) none firsts) ∙ sym none in
     absurd (c.requires.unknown (subst (λ (set : ℕ). Knows pool set reader) same knows))
 
-pub returns-in-Some-known-clause-onwards : goal.returns-in-Some-known-clause-onwards
-returns-in-Some-known-clause-onwards g t c = λ first firsts knows.
+pub returns-in-Some-known_system-clause-onwards : goal.returns-in-Some-known_system-clause-onwards
+returns-in-Some-known_system-clause-onwards g t c = λ first firsts knows.
     let pool = c.args.self.now in
     let fields = c.args.fields in
     let last = c.in-Some.last in
-    let same = ap (λ (s : SystemParts). s.edits) c.deref-in-Some-known.ensures ∙ c.in-Some-known.ensures.edits in
+    let same = ap (λ (s : SystemParts). s.edits) c.deref-in-Some-known_system.ensures ∙ c.in-Some-known_system.ensures.edits in
     let few = subst (λ (e : EditsParts). c.with_last.new.steps + pairs_at e (without_number fields last) ≤ c.args.steps.now + pairs_at e fields) same
     c.with_last.ensures.few in
     let others = first-others pool.edits fields last c.requires.numerical c.in-Some.ensures.some pool (map walked_of c.args.entries.now) first firsts knows
@@ -41,7 +41,7 @@ make-requires g t c κs within =
     let less = one-less c.args.self.now.edits fields last c.requires.numerical c.in-Some.ensures.some in
     let same = ap (λ (s : ℕ). length (chosen_fields shape s)) set in
     let numerical = subst (λ (s : ℕ). AreNumerical shape s) (sym set) (numerical-less shape fields last c.requires.numerical) in
-    (omega (arith, less, same, c.decreases), (within, (numerical, (c.requires.entries, c.in_default-known.ensures.none))))
+    (omega (arith, less, same, c.decreases), (within, (numerical, (c.requires.entries, c.in_default-known_system.ensures.none))))
 
 pub returns-in-Ok-clause-onwards : goal.returns-in-Ok-clause-onwards
 returns-in-Ok-clause-onwards g t c = λ first firsts knows.

@@ -4,7 +4,7 @@ use Rattle.shared_edits.specs.Pools.{Carries, IsOf, Knows}
 use Rattle.shared_edits.specs.declared.entry.Entry.{Entry}
 use Rattle.shared_edits.specs.inner.Entries.{walked_of}
 use Rattle.shared_edits.proofs.FindLaws.{carries-lines, found, unknown}
-use Rattle.shared_edits.proofs.pool.Pool.known.Goals as goal
+use Rattle.shared_edits.proofs.pool.Pool.known_system.Goals as goal
 
 -- the entry at the place is found
 module _ (c : goal.After-index-as_slice-place) where
