@@ -60,7 +60,7 @@ pub fn run_edit<R: Threads + Wait + Sync, D: Desk, P: Printer, G: Gate>(
     ensures complete { IsEditComplete asked.now result (ran D.Desk P.Printer desk printer) }
     ensures due { IfSome (D.files desk.old) (λ files. AnswersDue (IsDue asked.now files) result) }
 {
-    run(rt, alloc, asked, None, desk, printer, gate)
+    run_either(rt, alloc, asked, None, desk, printer, gate)
 }
 
 /// Edits the records that the words name, with donors of a record's own imputation class, by the field
@@ -80,7 +80,7 @@ pub fn run_classed<R: Threads + Wait + Sync, D: Desk, P: Printer, G: Gate>(
     ensures complete { IsClassedComplete asked.now result (ran D.Desk P.Printer desk printer) }
     ensures due { IfSome (D.files desk.old) (λ files. AnswersDue (IsClassedDue asked.now files) result) }
 {
-    run(
+    run_either(
         rt,
         alloc,
         &asked.edit,
@@ -94,7 +94,7 @@ pub fn run_classed<R: Threads + Wait + Sync, D: Desk, P: Printer, G: Gate>(
 // The run of both commands. It edits the records that the words name, by the classes of the field named
 // `class`, or without classes where that is None. It prints the summary, or why the run is refused, and
 // answers the status of the run.
-fn run<'a, R: Threads + Wait + Sync, D: Desk, P: Printer, G: Gate>(
+fn run_either<'a, R: Threads + Wait + Sync, D: Desk, P: Printer, G: Gate>(
     rt: &R,
     alloc: Global,
     asked: &EditWords<'a>,
@@ -112,7 +112,7 @@ fn run<'a, R: Threads + Wait + Sync, D: Desk, P: Printer, G: Gate>(
     ensures due { IfSome (D.files desk.old) (λ files.
         AnswersDue (IsEitherDue asked.now.names.rules asked.now.names.records (option_copied class.entry) files) result) }
 {
-    match edit(rt, alloc, asked, class, desk, gate) {
+    match edit_and_store(rt, alloc, asked, class, desk, gate) {
         Ok(release) => tell_all(printer, &release.summary, status_of(&release)),
         Err(refusal) => refuse(printer, refusal.line(), refusal.status()),
     }
@@ -133,7 +133,7 @@ fn status_of(release: &Release) -> Status
 // Does all of a run but the printing, up to the first fault: it fetches the files, edits the records, and
 // stores the release, which it then answers. Refused where a file can't be had or has no reading, no
 // categorical field has the name asked for, a store fails, or memory is refused.
-fn edit<'a, R: Threads + Wait + Sync, D: Desk, G: Gate>(
+fn edit_and_store<'a, R: Threads + Wait + Sync, D: Desk, G: Gate>(
     rt: &R,
     alloc: Global,
     asked: &EditWords<'a>,

@@ -23,7 +23,7 @@ use Rattle.edit_command.proofs.EndLaws.{editing}
 use Rattle.edit_command.proofs.InputLaws.{either-calls, of-either, stores-either, stores-refuse-either, told-read-due}
 use Rattle.edit_command.proofs.RunLaws.{either-unstored}
 use Rattle.edit_command.proofs.WrittenLaws.{own-names}
-use Rattle.edit_command.proofs.edit_run.edit.Goals as goal
+use Rattle.edit_command.proofs.edit_run.edit_and_store.Goals as goal
 
 -- what these words ask for
 abbrev asked_in : Inside → EditAsked

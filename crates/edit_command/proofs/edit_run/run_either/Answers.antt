@@ -4,7 +4,7 @@ use Rattle.run_parts.proofs.CommandLaws.{not-failed, released-by, untold-by, who
 use Rattle.edit_command.specs.inner.EditParts.{release_made}
 use Rattle.edit_command.specs.inner.EitherRun.{either_command}
 use Rattle.edit_command.proofs.RunLaws.{either-refused}
-use Rattle.edit_command.proofs.edit_run.run.Goals as goal
+use Rattle.edit_command.proofs.edit_run.run_either.Goals as goal
 
 pub returns-in-Ok-clause-whole : goal.returns-in-Ok-clause-whole
 returns-in-Ok-clause-whole g c = λ ended.
