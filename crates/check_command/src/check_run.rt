@@ -42,7 +42,7 @@ pub fn run_check<D: Desk, P: Printer>(
     ensures complete { IsCheckComplete asked.now result (ran D.Desk P.Printer desk printer) }
     ensures due { IfSome (D.files desk.old) (λ files. AnswersDue (IsCheckDue asked.now files) result) }
 {
-    match check(alloc, asked, desk) {
+    match check_files(alloc, asked, desk) {
         Ok(line) => tell(printer, &line, Status::Done),
         Err(refusal) => refuse(printer, refusal.line(), refusal.status()),
     }
@@ -51,7 +51,7 @@ pub fn run_check<D: Desk, P: Printer>(
 // Does all of a run but the printing, up to the first fault: it fetches the four files, and audits the
 // release. It gives the line that is printed of a valid one. Refused where a file can't be read, is too
 // long or has no reading, where the release is not valid, and for want of memory.
-fn check<'a, D: Desk>(
+fn check_files<'a, D: Desk>(
     alloc: Global,
     asked: &CheckWords<'a>,
     desk: &mut D,

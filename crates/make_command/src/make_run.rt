@@ -46,7 +46,7 @@ pub fn run_make<D: Desk, P: Printer>(
     ensures stopped { result ≢ Status.Done → IsMakeStopped asked.now result (ran D.Desk P.Printer desk printer) }
     ensures complete { IsMakeComplete result (ran D.Desk P.Printer desk printer) }
 {
-    match make(alloc, asked, desk) {
+    match make_survey(alloc, asked, desk) {
         Ok(made) => tell(printer, &made.line, Status::Done),
         Err(refusal) => refuse(printer, refusal.line(), refusal.status()),
     }
@@ -55,7 +55,7 @@ pub fn run_make<D: Desk, P: Printer>(
 // Does all of a run but the printing, up to the first fault: it makes the survey and stores both files. It
 // gives the texts that it stored, and the line to be printed. Refused where a store fails, and for want of
 // memory.
-fn make<'a, D: Desk>(
+fn make_survey<'a, D: Desk>(
     alloc: Global,
     asked: &MakeWords<'a>,
     desk: &mut D,

@@ -44,7 +44,7 @@ pub fn run_rules<D: Desk, P: Printer>(
     ensures complete { IsRulesComplete asked.now result (ran D.Desk P.Printer desk printer) }
     ensures due { IfSome (D.files desk.old) (λ files. AnswersDue (IsRulesDue asked.now files) result) }
 {
-    match rules(alloc, asked, desk) {
+    match report_rules(alloc, asked, desk) {
         Ok(lines) => tell_all(printer, &lines, Status::Done),
         Err(refusal) => refuse(printer, refusal.line(), refusal.status()),
     }
@@ -53,7 +53,7 @@ pub fn run_rules<D: Desk, P: Printer>(
 // Does all of a run but the printing: it fetches the rules that the words name, and gives the lines that are
 // printed of them. Refused where the file has no reading, can't be read or is too long, and for want of
 // memory.
-fn rules<'a, D: Desk>(
+fn report_rules<'a, D: Desk>(
     alloc: Global,
     asked: &RulesWords<'a>,
     desk: &mut D,
