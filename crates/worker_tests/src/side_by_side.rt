@@ -108,7 +108,7 @@ struct Seen {
 // Edits the records of a file by the rules of another, both given as bytes, with `workers` workers and this
 // gate. It gives what became of the records. Each record ranks one donor, and each donor is given once.
 // Bytes without a reading are answered as refused memory.
-fn edited<R: Threads + Wait + Sync, G: Gate>(
+fn edit_bytes<R: Threads + Wait + Sync, G: Gate>(
     rt: &R,
     alloc: Global,
     rules: &[u8],
@@ -176,7 +176,7 @@ const PAIR_RULES: &[u8] = b"number A\nnumber B\nA >= 1\nB >= 1\nB <= 9\n";
 // nobody.
 #[test]
 fn two_workers_give_one_donor_once(rt: HostRuntime) -> Result<(), Fail> {
-    let Seen { history, .. } = edited(
+    let Seen { history, .. } = edit_bytes(
         &rt,
         rt.alloc(),
         PAIR_RULES,
@@ -192,7 +192,7 @@ fn two_workers_give_one_donor_once(rt: HostRuntime) -> Result<(), Fail> {
 // With one worker row 1 claims first and takes 4. Row 2 is given nobody and takes 1, the nearest to 0.
 #[test]
 fn one_worker_claims_in_row_order(rt: HostRuntime) -> Result<(), Fail> {
-    let Seen { ends, history, .. } = edited(
+    let Seen { ends, history, .. } = edit_bytes(
         &rt,
         rt.alloc(),
         PAIR_RULES,
@@ -210,7 +210,7 @@ fn one_worker_claims_in_row_order(rt: HostRuntime) -> Result<(), Fail> {
 #[test]
 fn a_worker_draws_while_another_is_held(rt: HostRuntime) -> Result<(), Fail> {
     let gate = Hold::new(0, 1);
-    let Seen { ends, history, .. } = edited(
+    let Seen { ends, history, .. } = edit_bytes(
         &rt,
         rt.alloc(),
         b"number A\nA >= 0\n",
@@ -231,7 +231,7 @@ fn a_worker_claims_before_it_draws_again(rt: HostRuntime) -> Result<(), Fail> {
     let gate = Relay {
         hold: Hold::new(1, 3),
     };
-    let Seen { ends, history, .. } = edited(
+    let Seen { ends, history, .. } = edit_bytes(
         &rt,
         rt.alloc(),
         PAIR_RULES,
@@ -250,7 +250,7 @@ fn a_worker_claims_before_it_draws_again(rt: HostRuntime) -> Result<(), Fail> {
 // the pool.
 #[test]
 fn a_new_reader_finds_what_a_worker_derived(rt: HostRuntime) -> Result<(), Fail> {
-    let Seen { ends, pool, .. } = edited(
+    let Seen { ends, pool, .. } = edit_bytes(
         &rt,
         rt.alloc(),
         b"number A\nnumber B\nA + B = 10\n",

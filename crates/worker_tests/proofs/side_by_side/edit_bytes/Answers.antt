@@ -1,5 +1,5 @@
 use Rattle.record_text.proofs.SheetLaws.{rows_are_records}
-use Rattle.worker_tests.proofs.side_by_side.edited.Goals as goal
+use Rattle.worker_tests.proofs.side_by_side.edit_bytes.Goals as goal
 
 pub edit_records-requires-clause-rows : goal.edit_records-requires-clause-rows
 edit_records-requires-clause-rows g c κs within =
