@@ -143,9 +143,9 @@ fn marks_at_place<'a, F>(search: &Search<'a, F>, place: usize) -> &'a [u16]
     &marks[start..start + count]
 }
 
-/// The marks of a donor at the first eight fields, or at all where there are fewer. The walk goes by the slots
-/// of `field`, and `donor` is that of the slot at `place`. In the walk by the first numerical field these
-/// marks stand one donor after the other, so that little memory is read.
+/// The marks of a donor at the first eight fields, or at all where there are fewer. The walk goes by the
+/// slots of `field`, and `donor` is that of the slot at `place`. In the walk by the first numerical field
+/// these marks stand one donor after the other, so that little memory is read.
 #[inline(always)]
 pub(crate) fn first_marks_in_walk<'a, F>(
     search: &Search<'a, F>,
