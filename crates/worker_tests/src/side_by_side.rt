@@ -151,7 +151,8 @@ fn edit_bytes<R: Threads + Wait + Sync, G: Gate>(
     })
 }
 
-// Whether the claim is of the row `row_no`, from 0, ranks row 0 alone, and was answered this donor, or nobody.
+// Whether the claim is of the row `row_no`, from 0, ranks row 0 alone, and was answered this donor, or
+// nobody.
 fn is_claim(entry: &Entry, row_no: u32, reply: Option<u32>) -> bool {
     entry.row_no == row_no && entry.ranking.as_slice() == [0].as_slice() && entry.reply == reply
 }
