@@ -28,12 +28,12 @@ use Rattle.edit_report.specs.declared.end.RowEnd.{RowEnd}
 abbrev pub name_of : List Field → ℕ → List ℕ
 name_of fields f = slice_index_or (map (λ (field : Field). field.name) fields) f []
 
--- a place among the numbers of a line
+-- the name of a place among the numbers of a line: that of its field, or of the constant
 abbrev pub place_text : List Field → Place → List ℕ
 place_text fields (place.Field f) = name_of fields f
 place_text fields place.Constant = codes "constant"
 
--- how a value was found
+-- the word for how a value was found
 abbrev pub how_text : How → List ℕ
 how_text Donor = codes "donor"
 how_text Default = codes "default"
@@ -46,7 +46,7 @@ donor_text (Some donor) = named donor
 
 -- ---- why a record is not released
 
--- the cause
+-- the word for the cause
 abbrev pub cause_text : Outcome → List ℕ
 cause_text (Change path weight cert) = codes "overflow"
 cause_text (Budget path work) = codes "budget"
@@ -78,7 +78,7 @@ detail_text fields (Contradictory cert) fault = []
 abbrev pub cause_line : ℕ → List ℕ → List ℕ → List (List ℕ)
 cause_line number cause detail = named number ∷ cause ∷ [] ∷ [] ∷ [] ∷ [] ∷ detail ∷ []
 
--- the same by what was found
+-- the line of a record that is not released, by what was found of it
 abbrev pub unresolved_line : List Field → ℕ → RowProof → List (List ℕ)
 unresolved_line fields number found = cause_line number (cause_text found.outcome) (detail_text fields found.outcome found.gift)
 
@@ -112,7 +112,7 @@ reasons_of fields columns number texts end = lines_with fields columns number te
 
 -- ---- the file
 
--- what the columns hold
+-- the names of the columns
 abbrev pub reasons_header : List (List ℕ)
 reasons_header = codes "record" ∷ codes "cause" ∷ codes "field" ∷ codes "before" ∷ codes "after" ∷ codes "donor" ∷ codes "detail" ∷ []
 

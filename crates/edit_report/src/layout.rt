@@ -53,7 +53,7 @@ impl Layout {
         })
     }
 
-    /// The number of the field that stands in the column; None for a further column. No memory.
+    /// The number of the field that stands in the column, both from 0; None for a further column. No memory.
     pub(crate) fn field_at(&self, column: usize) -> Option<usize>
         requires { column < self.now.width }
         ensures { result ≡ field_in self.now.columns column }
@@ -95,7 +95,8 @@ fn fields_of(
     Ok(fields)
 }
 
-// The field whose column this is, where `columns` has the column of each field; None for a further column.
+// The number of the field whose column this is, where `columns` has the column of each field; None for a
+// further column. Numbers and columns are from 0.
 fn field_at(columns: &[u32], column: usize) -> Option<usize>
     ensures { result ≡ field_in columns.now column }
 {
