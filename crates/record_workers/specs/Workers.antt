@@ -67,7 +67,7 @@ pieces_in class pieces = filter (λ (p : Piece). p.class == class) pieces
 abbrev pub AreClaimedIn : ℕ → List Piece → ClassPassState → Type 0
 AreClaimedIn last pieces pass = (class : ℕ) → class < last → AreClaimed (pieces_in class pieces) (pass_in class pass)
 
--- in each of these classes each claim of the pass is in what it has seen, at a place behind those of its earlier claims
+-- in each class that has donors, each claim of the pass is in what it has seen, at a place behind those of its earlier claims
 abbrev pub ArePlacedIn : ℕ → ClassPassState → Type 0
 ArePlacedIn last pass = (class : ℕ) → class < last → passes.ArePlaced (state_in class pass).seen (state_in class pass).mine
 
