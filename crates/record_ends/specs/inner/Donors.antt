@@ -10,7 +10,7 @@ use Rattle.record_ends.specs.Givings.{donor_in}
 abbrev pub donor_at : List (Option ℕ) → ℕ → Option ℕ
 donor_at donors row_no = slice_index_or donors row_no None
 
--- the list has the donor of each of the first rows
+-- the list has, for each record of a number below `rows`, the donor that it was given in the history
 abbrev pub ListsDonors : List Entry → ℕ → List (Option ℕ) → Type 0
 ListsDonors history rows donors = (i : ℕ) → i < rows → donor_at donors i ≡ donor_in history i
 
