@@ -7,7 +7,7 @@ use Rattle.run_core.specs.declared.event.CoreEvent.{CoreEvent}
 use Rattle.run_core.specs.declared.event.CoreEvent.TheVariants as event
 use Rattle.run_core.specs.declared.event.CoreReply.{CoreReply}
 
--- what the events leave
+-- the state that the events leave, taken one after the other
 abbrev pub run : CoreParts → List CoreEvent → CoreParts
 run state [] = state
 run state (event ∷ events) = run (after state event) events
