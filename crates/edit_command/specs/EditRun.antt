@@ -49,7 +49,7 @@ abbrev pub MakesEdit : EditAsked → Option (List ℕ) → Files → Made → Ty
 MakesEdit asked class files made =
     (answer : Status) × (written : Written) × IsMade asked class answer files written × (made ≡ edit_made asked answer written)
 
--- the command, which knows no classes
+-- the command `edit`: its calls, why it is refused, and what it makes, without classes
 abbrev pub edit_command : EditAsked → Command
 edit_command asked = record { meets = IsOfEdit; refuses = Refuses asked; order = edit_calls asked; makes = MakesEdit asked None }
 
