@@ -73,8 +73,8 @@ fn make_survey<'a, D: Desk>(
     Ok(made)
 }
 
-// The rule file, a record file of `rows` records that follow from the number `start`, and the line that is
-// printed, as `made rows 100`.
+// The texts of a survey that is made up: the rule file, a record file of `rows` records, and the line that is
+// printed, as `made rows 100`. The records follow from the number `start`, so that one start gives one file.
 fn survey_of(alloc: Global, start: u32, rows: u32) -> Result<SurveyTexts, OutOfMemory>
     ensures rules { IfOk result (λ made. made.rules.items ≡ printed survey_made) }
     ensures records { IfOk result (λ made. made.records.items ≡ record_file start rows) }
