@@ -47,7 +47,7 @@ is_broken rule row = is_false (answer_at row rule)
 abbrev pub is_untried : Rule → List Value → Bool
 is_untried rule row = is_none (answer_at row rule)
 
--- none
+-- the counts of a rule before any record is tried
 abbrev pub no_count : RuleCount
 no_count = record { broken = 0; untried = 0 }
 

@@ -12,7 +12,7 @@ abbrev pub thousandths_of : Fraction → Option ℤ
 thousandths_of x =
     if nat_le (unsigned_abs x.numerator) (10 ^ 33) then Some (int_div_euclid (pos 1000 *ℤ x.numerator) x.denominator) else None
 
--- the same of a value, None where it is no number
+-- how many thousandths a value is, None where it is no number or has too great a numerator
 abbrev pub thousandths_at : Value → Option ℤ
 thousandths_at (Number x) = thousandths_of x
 thousandths_at (Code c) = None

@@ -1,5 +1,7 @@
-//! Records or donors by an amount: how many have each, and which have the greatest. In contracts,
-//! `IsTally` and `AreGreatest` say so.
+//! Records or donors by an amount: what a record's changes weigh, or to how many records a donor gave. It
+//! is counted how many have each amount, and found which have the greatest. In contracts, `IsTally` says
+//! that counts have each size that occurs once, by rising size. `AreGreatest` says that amounts are the
+//! first of all, the greater first.
 ghost use Rattle.std.specs.BTreeMap.{get};
 ghost use Rattle.std.specs.Prelude.{◌≡◌, ◌==◌, ◌≤◌, ℕ, IfOk, IfSome, count_by, unwrap_or};
 ghost use Rattle.std.specs.Ordering.{nat_cmp};
@@ -27,7 +29,7 @@ pub struct SizeCount {
     pub count: usize,
 }
 
-/// How many of the amounts are of each size, by rising size, each size once.
+/// How many of the amounts are of each size that occurs, by rising size, each size once.
 pub fn tally(alloc: Global, amounts: &[Amount]) -> Result<Vec<SizeCount>, OutOfMemory>
     ensures { IfOk result (λ counts. IsTally amounts.now counts.items) }
 {
@@ -42,7 +44,8 @@ pub fn tally(alloc: Global, amounts: &[Amount]) -> Result<Vec<SizeCount>, OutOfM
     Ok(counts)
 }
 
-// How many of the amounts are of each size that occurs, by size.
+// How many of the amounts are of each size that occurs, as a map by the size. A size that does not occur
+// is not in it (`some`).
 fn counts_by_size(alloc: Global, amounts: &[Amount]) -> Result<BTreeMap<u128, usize>, OutOfMemory>
     ensures counts { IfOk result (λ by_size. (size : ℕ)
         → unwrap_or (get nat_cmp by_size size) 0 ≡ count_by (λ (a : AnyAmount). a.size == size) amounts.now) }
@@ -55,8 +58,8 @@ fn counts_by_size(alloc: Global, amounts: &[Amount]) -> Result<BTreeMap<u128, us
     Ok(counts)
 }
 
-/// The greatest amounts, at most `most` of them: the greater first, and of equal ones that of the
-/// earlier number.
+/// The greatest amounts: the greater first, and of equal ones that of the earlier number. There are
+/// `most` of them, or all amounts where there are no more.
 pub fn greatest_amounts(
     alloc: Global,
     amounts: &[Amount],
@@ -78,7 +81,8 @@ fn sort(amounts: &mut Vec<Amount>)
     amounts.sort_unstable_by(|a, b| order_of(a, b));
 }
 
-// The order of two amounts: the greater first, and of equal ones that of the earlier number.
+// The order of two amounts, by which they are sorted. The first comes before the second (`Less`) where it
+// is greater, or where both are equal and its number is earlier.
 fn order_of(a: &Amount, b: &Amount) -> Ordering
     ensures { result ≡ amount_order a.now b.now }
 {

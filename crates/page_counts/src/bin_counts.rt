@@ -1,4 +1,6 @@
-//! How many numbers each bin has.
+//! How many of a field's numbers each bin of a histogram has. A number is in a bin by its thousandths,
+//! rounded down. One whose thousandths can't be told is in no bin. In contracts, `is_beyond` says of a
+//! value that it is a number in no bin.
 ghost use Rattle.std.specs.Prelude.{◌≡◌, ◌≤◌, IfOk, count_by, map};
 ghost use Rattle.page_counts.specs.Bins.{bin_counts, bin_low, is_between, is_beyond};
 ghost use Rattle.page_counts.specs.Thousandths.{thousandths_at};
@@ -17,7 +19,8 @@ pub struct BinCounts {
     pub beyond: usize,
 }
 
-/// How many of the values each bin has, in the order of the bins, and how many of the numbers among them are in no bin.
+/// How many of the values each bin has, in the order of the bins, and how many of the numbers among them
+/// are in no bin. Codes and missing values are counted nowhere.
 pub fn histogram(alloc: Global, values: &[Value], bins: &Bins) -> Result<BinCounts, OutOfMemory>
     ensures counts { IfOk result (λ found. found.counts ≡ bin_counts bins.now values.now) }
     ensures beyond { IfOk result (λ found. found.beyond ≡ count_by (is_beyond bins.now) values.now) }
@@ -33,7 +36,8 @@ pub fn histogram(alloc: Global, values: &[Value], bins: &Bins) -> Result<BinCoun
     })
 }
 
-// How many are in the bins from one on, and before the other.
+// How many of these thousandths are in the bins from number `first` on that come before number `end`, both
+// from 0. A number whose thousandths are None is in no bin.
 fn count_among(thousandths: &[Option<i128>], bins: &Bins, first: u32, end: u32) -> usize
     requires first { first ≤ 20 }
     requires end { end ≤ 20 }
@@ -42,7 +46,7 @@ fn count_among(thousandths: &[Option<i128>], bins: &Bins, first: u32, end: u32) 
     count_between(thousandths, bins.low(first), bins.low(end))
 }
 
-// How many are from the first number on, and below the second.
+// How many of these thousandths are at least `low` and below `high`; None is not counted.
 fn count_between(thousandths: &[Option<i128>], low: i128, high: i128) -> usize
     ensures { result ≡ count_by (is_between low high) thousandths.now }
 {
@@ -52,7 +56,7 @@ fn count_between(thousandths: &[Option<i128>], low: i128, high: i128) -> usize
         .count()
 }
 
-// Whether there are thousandths from the first number on that are below the second.
+// Whether these thousandths are at least `low` and below `high`; false for None.
 fn is_between(thousandths: Option<i128>, low: i128, high: i128) -> bool
     ensures { result ≡ is_between low high thousandths }
 {
@@ -62,7 +66,8 @@ fn is_between(thousandths: Option<i128>, low: i128, high: i128) -> bool
     }
 }
 
-// How many numbers are in no bin: all but those that are in some.
+// How many numbers among the values are in no bin: all but those that are in some. `thousandths` are those
+// of the values.
 fn beyond_count(values: &[Value], thousandths: &[Option<i128>], bins: &Bins) -> usize
     requires { thousandths.now ≡ map thousandths_at values.now }
     ensures { result ≡ count_by (is_beyond bins.now) values.now }

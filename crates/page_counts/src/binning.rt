@@ -1,5 +1,6 @@
 //! Bins over numbers: where they begin, and which serve. In contracts, `IsWithin` says that thousandths
 //! are in one of the bins, and `IsNarrowest` that no narrower width of those that bins may have serves.
+//! `bins_needed` is how many bins of a width there are from that of one number to that of another.
 ghost use Rattle.std.specs.Prelude.{◌≡◌, ◌*◌, ◌≤◌, ◌^◌, ◌*ℤ◌, ◌<ℤ◌, ◌≤ℤ◌, pos, unsigned_abs};
 ghost use Rattle.std.specs.Int.{int_div_euclid, int_max, int_min};
 ghost use Rattle.page_counts.specs.Bins.{IsNarrowest, IsWithin, bin_low, bins_needed};
@@ -19,8 +20,8 @@ impl Bins {
 }
 
 /// The narrowest bins, at most 20 and not narrower than `unit`, that have the thousandths `one` and
-/// `other` and all between. Their width is 1, 2 or 5 times a power of ten, and the first begins at a
-/// multiple of it. With a unit of 1000 bins begin at whole numbers.
+/// `other` and all between. Either may be the greater. The width of the bins is 1, 2 or 5 times a power of
+/// ten, and the first begins at a multiple of it. With a unit of 1000 bins begin at whole numbers.
 pub fn bins_over(one: i128, other: i128, unit: i128) -> Bins
     requires one { unsigned_abs one ≤ 10 ^ 36 }
     requires other { unsigned_abs other ≤ 10 ^ 36 }
@@ -38,7 +39,8 @@ pub fn bins_over(one: i128, other: i128, unit: i128) -> Bins
     }
 }
 
-// The narrowest bins from the thousandths `least` to `greatest` that are not narrower than `unit`.
+// The narrowest bins that have the thousandths from `least` to `greatest`. There are at most 20 of them, and
+// they are not narrower than `unit`.
 fn bins_between(least: i128, greatest: i128, unit: i128) -> Bins
     requires least { unsigned_abs least ≤ 10 ^ 36 }
     requires greatest { unsigned_abs greatest ≤ 10 ^ 36 }
@@ -53,7 +55,8 @@ fn bins_between(least: i128, greatest: i128, unit: i128) -> Bins
     bins_of(least, greatest, width_over(least, greatest, unit))
 }
 
-// The bins of this width, from that which has the least number to that which has the greatest.
+// The bins of this width, from that which has the thousandths `least` to that which has `greatest`. At most
+// 20 have to be enough (`few`).
 fn bins_of(least: i128, greatest: i128, width: i128) -> Bins
     requires least { unsigned_abs least ≤ 10 ^ 36 }
     requires greatest { unsigned_abs greatest ≤ 10 ^ 36 }
@@ -72,7 +75,7 @@ fn bins_of(least: i128, greatest: i128, width: i128) -> Bins
     }
 }
 
-// How many bins there are, as a number of 32 bits.
+// How many bins there are, from 1 to 20, as a number of 32 bits.
 fn count_of(needed: i128) -> u32
     requires some { pos 1 ≤ℤ needed }
     requires few { needed ≤ℤ pos 20 }
@@ -83,7 +86,8 @@ fn count_of(needed: i128) -> u32
     needed as u32
 }
 
-// Where the bin of a number begins: at the last multiple of the width that is not above it.
+// Where the bin of this width begins that has the thousandths `least`: at the last multiple of the width
+// that is not above them.
 fn first_of(least: i128, width: i128) -> i128
     requires least { unsigned_abs least ≤ 10 ^ 36 }
     requires wide { pos 0 <ℤ width }

@@ -8,14 +8,15 @@ use edit_model::Value;
 use foundation::{OutOfMemory, Sequence};
 use std::alloc::Global;
 
-/// How many values each code has, in the order of the codes, and how many values are none.
+/// How many values each code has, in the order of the codes, and how many values are missing (`none`).
 #[derive(Debug, Drop)]
 pub struct CodeCounts {
     pub by_code: Sequence<usize>,
     pub none: usize,
 }
 
-/// How many of the values each of the first `codes` codes is, and how many are missing (Bad).
+/// For each of the first `codes` codes how many of the values are that code, and how many values are
+/// missing (Bad). A number, or a later code, is counted nowhere.
 pub fn code_counts(alloc: Global, values: &[Value], codes: u32) -> Result<CodeCounts, OutOfMemory>
     ensures by_code { IfOk result (λ counts. counts.by_code ≡ code_counts codes values.now) }
     ensures none { IfOk result (λ counts. counts.none ≡ count_by is_bad values.now) }
@@ -30,14 +31,14 @@ pub fn code_counts(alloc: Global, values: &[Value], codes: u32) -> Result<CodeCo
     })
 }
 
-// How many of the values are this code.
+// How many of the values are the code of this number, from 0.
 fn code_count(values: &[Value], code: u32) -> usize
     ensures { result ≡ count_by (is_code code) values.now }
 {
     values.iter().filter(|value| is_code(value, code)).count()
 }
 
-// Whether the value is this code.
+// Whether the value is the code of this number, from 0. A number or a missing value is none.
 fn is_code(value: &Value, code: u32) -> bool
     ensures { result ≡ is_code code value.now }
 {

@@ -1,4 +1,5 @@
-//! The values of a field in some rows of a sheet.
+//! The values of a field in some rows of a sheet, and how many of them are numbers or missing. Rows and
+//! fields are numbered from 0.
 ghost use Rattle.std.specs.Prelude.{◌≡◌, IfOk, count_by};
 ghost use Rattle.edit_model.specs.Rows.{is_bad};
 ghost use Rattle.page_counts.specs.Columns.{column_of, value_at};
@@ -26,7 +27,7 @@ pub fn column(
     Ok(values)
 }
 
-/// How many of the values are Bad. No memory.
+/// How many of the values are missing (Bad). No memory.
 pub fn bad_count(values: &[Value]) -> usize
     ensures { result ≡ count_by is_bad values.now }
 {

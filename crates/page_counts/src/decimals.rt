@@ -1,4 +1,4 @@
-//! Thousandths as decimal numbers, such as `-1.5` for -1500.
+//! Thousandths as decimal numbers, such as `-1.5` for -1500. By these the bins of a page are named.
 ghost use Rattle.std.specs.Prelude.{◌≡◌, ◌+◌, ◌++◌, ◌<◌, IfOk, OnOk};
 ghost use Rattle.std.specs.Fmt.{decimal};
 ghost use Rattle.page_counts.specs.Thousandths.{decimal_text, digit, digits_behind, rest_text, sign_text};
@@ -19,7 +19,7 @@ pub fn decimal_text(alloc: Global, thousandths: i128) -> Result<Vec<u8>, OutOfMe
     Ok(text)
 }
 
-// A minus sign where the number is below 0.
+// A minus sign where the number is below 0, and else no byte.
 fn sign_text(alloc: Global, thousandths: i128) -> Result<Vec<u8>, OutOfMemory>
     ensures { IfOk result (λ text. text.items ≡ sign_text thousandths) }
 {
@@ -30,7 +30,7 @@ fn sign_text(alloc: Global, thousandths: i128) -> Result<Vec<u8>, OutOfMemory>
     Ok(text)
 }
 
-// Appends a whole number.
+// Appends a whole number in decimal digits.
 fn push_whole(alloc: Global, text: &mut Vec<u8>, whole: u128) -> Result<(), OutOfMemory>
     ensures { OnOk result (text.new.items ≡ text.old.items ++ decimal whole) }
 {

@@ -1,4 +1,6 @@
-//! How often donors gave: to how many records each.
+//! How often donors gave: to how many records each. A donor that gave to several fields of a record gave to
+//! one record. In contracts, `noted` is what is known of donors after one change more. `AreAllGifts` says
+//! that it is so of each record to how many it gave.
 ghost use Rattle.std.specs.Prelude.{◌≡◌, ◌∷◌, ◌++◌, ◌≤◌, ◌^◌, [], All, IfOk, OnOk, if◌then◌else◌, nat_lt};
 ghost use Rattle.std.specs.List.Sorted.{IsNonDecreasingBy};
 ghost use Rattle.reason_lines.specs.declared.entry.Change.{Change as AnyChange};
@@ -11,7 +13,7 @@ use foundation::OutOfMemory;
 use reason_lines::Change;
 use std::alloc::Global;
 
-// To how many records a donor gave so far, and the last of them.
+// To how many records a donor gave so far, and the last of them: None where there is none yet.
 #[derive(Clone, Copy)]
 struct Gifts {
     count: u64,
@@ -33,7 +35,7 @@ pub fn donors(alloc: Global, rows: u32, changes: &[Change]) -> Result<Vec<Amount
     Ok(donors)
 }
 
-// Appends the donor `number`, which gave to `count` records, if these are some.
+// Appends the donor `number`, which gave to `count` records. Nothing is appended where it gave to none.
 fn keep(donors: &mut Vec<Amount>, number: u32, count: u64) -> Result<(), OutOfMemory>
     ensures { OnOk result (donors.new.items ≡ donors.old.items
         ++ (if nat_lt 0 count then record { number = number; size = count } ∷ [] else [])) }
@@ -47,7 +49,8 @@ fn keep(donors: &mut Vec<Amount>, number: u32, count: u64) -> Result<(), OutOfMe
     Ok(())
 }
 
-// For each of `rows` records, to how many it gave, and the last of these.
+// For each of `rows` records, to how many records it gave, and the last of these. A change of a record past
+// them is passed over.
 fn gifts_of(alloc: Global, rows: u32, changes: &[Change]) -> Result<Vec<Gifts>, OutOfMemory>
     requires { IsNonDecreasingBy (λ (c : AnyChange). c.record) changes.now }
     ensures { IfOk result (λ gifts. AreAllGifts rows changes.now gifts.items) }
@@ -65,7 +68,8 @@ fn gifts_of(alloc: Global, rows: u32, changes: &[Change]) -> Result<Vec<Gifts>, 
     Ok(gifts)
 }
 
-// Notes that a change got its value from its donor, where it has one, and this is one of the records.
+// Notes the record of a change as one that the donor of the change gave to. Nothing is noted where the
+// change has no donor, or `gifts` no such record.
 fn note(gifts: &mut Vec<Gifts>, change: &Change)
     requires { All (λ (g : AnyGifts). g.count ≤ 2 ^ 32) gifts.old.items }
     ensures { gifts.new.items ≡ noted gifts.old.items change.now }

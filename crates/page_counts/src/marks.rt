@@ -1,4 +1,5 @@
-//! Which records the reasons name, as one mark for each record.
+//! Which records the reasons name, as one mark for each record: true where it is so. A record of the reasons
+//! past the last mark is passed over.
 ghost use Rattle.std.specs.Prelude.{◌≡◌, ◌||◌, ◌<◌, ℕ, IfOk, false, replicate, slice_index_or, slice_set, true, vec_len};
 ghost use Rattle.page_counts.specs.Records.{is_changed, is_left_out};
 

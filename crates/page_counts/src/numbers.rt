@@ -23,14 +23,14 @@ pub fn sum_of(values: &[Value]) -> Result<Fraction, Overflow>
     Ok(sum)
 }
 
-// 0 over 1.
+// The number 0, as 0 over 1, with which a sum begins.
 fn zero() -> Fraction
     ensures { ratio_of result ≡ record { numerator = pos 0; denominator = pos 1 } }
 {
     Fraction::whole(0)
 }
 
-// The sum with a value more; what is no number adds nothing.
+// The sum with a value more; what is no number adds nothing. It overflows where a number leaves the range.
 fn sum_with(sum: Fraction, value: &Value) -> Result<Fraction, Overflow>
     ensures { answered result ≡ sum_with (ratio_of sum) value.now }
 {
@@ -112,7 +112,7 @@ fn greater_of(greatest: Option<Fraction>, number: Fraction) -> Fraction
     }
 }
 
-// The lesser of two numbers, and the first of equal ones.
+// The lesser of two numbers, and `x` where they are equal.
 fn lesser(x: Fraction, y: Fraction) -> Fraction
     ensures one { (result ≡ x) ⊎ (result ≡ y) }
     ensures first { IsAtMost result x }
@@ -124,7 +124,7 @@ fn lesser(x: Fraction, y: Fraction) -> Fraction
     }
 }
 
-// The greater of two numbers, and the first of equal ones.
+// The greater of two numbers, and `x` where they are equal.
 fn greater(x: Fraction, y: Fraction) -> Fraction
     ensures one { (result ≡ x) ⊎ (result ≡ y) }
     ensures first { IsAtLeast result x }

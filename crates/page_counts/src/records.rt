@@ -91,7 +91,7 @@ fn left_out_count(cause: Cause, left_out: &[LeftOut]) -> usize
         .count()
 }
 
-// Whether two causes are one.
+// Whether two causes are the same.
 fn is_cause(cause: Cause, other: Cause) -> bool
     ensures { result ≡ is_cause cause other }
 {

@@ -1,4 +1,4 @@
-//! Which records the rows of a released file are.
+//! Which records the rows of a released file are: those that the reasons do not leave out.
 ghost use Rattle.std.specs.Prelude.{◌≡◌, ◌<◌, ◌∷◌, ◌++◌, [], All, IfOk, OnOk, if◌then◌else◌};
 ghost use Rattle.std.specs.List.Sorted.{IsStrictlyIncreasing};
 ghost use Rattle.page_counts.specs.Records.{released_rows};
@@ -27,7 +27,7 @@ pub fn released_rows(
     Ok(numbers)
 }
 
-// Appends the number of a record, where it was not left out.
+// Appends the number of a record where it was not left out, and else nothing.
 fn keep(numbers: &mut Vec<u32>, number: u32, is_left_out: bool) -> Result<(), OutOfMemory>
     ensures { OnOk result (numbers.new.items ≡ numbers.old.items ++ (if is_left_out then [] else number ∷ [])) }
 {

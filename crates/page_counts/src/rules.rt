@@ -8,7 +8,8 @@ use foundation::OutOfMemory;
 use record_text::Sheet;
 use std::alloc::Global;
 
-/// How many records break a rule, and at how many it cannot be tried.
+/// How many records break a rule, and at how many it can't be tried (`untried`): a value is missing that the
+/// rule reads, or a number leaves the range.
 #[derive(Clone, Copy, Debug, PartialEq, Eq)]
 pub struct RuleCount {
     pub broken: usize,
@@ -54,7 +55,7 @@ fn count_row(counts: &mut Vec<RuleCount>, rules: &[Rule], sheet: &Sheet, row_no:
     }
 }
 
-// The counts of a rule with the row `row_no`, where `count` has those of the rows before it.
+// The counts of a rule with the row `row_no`, from 0, where `count` has those of the rows before it.
 fn with_row(count: RuleCount, rule: &Rule, sheet: &Sheet, row_no: u32) -> RuleCount
     requires row { row_no < length sheet.now.rows }
     requires counted { count ≡ rule_count (take row_no sheet.now.rows) rule.now }

@@ -1,4 +1,4 @@
-//! Numbers in thousandths, and thousandths as decimal numbers.
+//! Numbers in thousandths, rounded down: by these they are put into bins.
 ghost use Rattle.std.specs.Prelude.{◌≡◌, ◌+◌, ◌++◌, ◌<ℤ◌, ◌*ℤ◌, ◌≤◌, ◌<◌, ◌^◌, IfOk, IfSome, OnOk, map, pos, unsigned_abs};
 ghost use Rattle.std.specs.Int.{int_div_euclid};
 ghost use Rattle.page_counts.specs.Thousandths.{decimal_text, digit, digits_behind, rest_text, sign_text, thousandths_at, thousandths_of};
@@ -23,7 +23,8 @@ pub fn thousandths_of(number: &Fraction) -> Option<i128>
     Some(rounded_down(thousand_times(number), number.denominator()))
 }
 
-// How many thousandths each value is, and None where that can't be told.
+// How many thousandths each value is, in order. None where it is no number, or its numerator is above 10^33
+// in size.
 pub(crate) fn thousandths(alloc: Global, values: &[Value]) -> Result<Vec<Option<i128>>, OutOfMemory>
     ensures { IfOk result (λ thousandths. thousandths.items ≡ map thousandths_at values.now) }
 {
@@ -45,7 +46,7 @@ pub(crate) fn thousandths_at(value: &Value) -> Option<i128>
     }
 }
 
-// A thousand times the numerator.
+// A thousand times the numerator, which stays in 128 bits.
 fn thousand_times(number: &Fraction) -> i128
     requires { unsigned_abs number.now.numerator ≤ 10 ^ 33 }
     ensures product { result ≡ pos 1000 *ℤ number.now.numerator }
@@ -54,7 +55,7 @@ fn thousand_times(number: &Fraction) -> i128
     1000 * number.numerator()
 }
 
-// The quotient of `size` and `unit`, rounded down.
+// The quotient of `size` and `unit`, rounded down: -1 and 3 give -1.
 pub(crate) fn rounded_down(size: i128, unit: i128) -> i128
     requires few { unsigned_abs size ≤ 10 ^ 36 }
     requires some { pos 0 <ℤ unit }

@@ -1,4 +1,5 @@
-//! Whether a rule can be tried at a record, and holds there.
+//! Whether a rule can be tried at a record, and holds there. It can be tried where the record has a value in
+//! each field that the rule reads.
 ghost use Rattle.std.specs.Prelude.{◌≡◌, ◌↔◌, IsTrue};
 ghost use Rattle.std.specs.List.{list_all};
 ghost use Rattle.edit_model.specs.Rows.{value_of};
@@ -36,7 +37,7 @@ fn have_values(tests: &[Test], row: &Row) -> bool
     tests.iter().all(|test| has_values(test, row))
 }
 
-// Whether the record has the values that the test reads.
+// Whether the record has the values that the test reads: a number in the field of each term, or a code.
 fn has_values(test: &Test, row: &Row) -> bool
     ensures { result ≡ has_values row.now test.now }
 {

@@ -1,4 +1,4 @@
-//! What the changes of records weigh.
+//! What the changes of records weigh: the sum of the weights of a record's changed fields.
 ghost use Rattle.std.specs.Prelude.{◌≡◌, ◌+◌, ◌^◌, ◌<◌, ◌∷◌, ◌++◌, [], ℕ, All, IfOk, OnOk, if◌then◌else◌, slice_index, slice_set, vec_len};
 ghost use Rattle.page_counts.specs.Weights.{field_weight, record_weight, weights_of};
 
@@ -9,7 +9,8 @@ use foundation::OutOfMemory;
 use reason_lines::Change;
 use std::alloc::Global;
 
-/// The changed ones of `rows` records, in order, with the sums of the weights of their changed fields.
+/// Those of `rows` records that were changed, by rising number from 0, each with the sum of the weights of its
+/// changed fields.
 pub fn weights(
     alloc: Global,
     survey: &Survey,
@@ -50,7 +51,7 @@ fn weight_sums(
     Ok(sums)
 }
 
-// The weight of the field, 0 where there is none of this number.
+// The weight of the field of this number, from 0, and 0 where there is no such field.
 fn field_weight(survey: &Survey, field: u32) -> u32
     ensures { result ≡ field_weight survey.now.fields field }
 {
@@ -60,7 +61,7 @@ fn field_weight(survey: &Survey, field: u32) -> u32
     }
 }
 
-// Appends the weight of the record `number`, which is `size`, if it was changed.
+// Appends the record `number`, whose changes weigh `size`, where it was changed, and else nothing.
 fn keep(
     weights: &mut Vec<Amount>,
     number: u32,
@@ -76,7 +77,7 @@ fn keep(
     Ok(())
 }
 
-// Adds a weight to the sum of the record of this number, where there is one.
+// Adds a weight to the sum of the record of this number. Nothing is added where `sums` has no such record.
 fn add(sums: &mut Vec<u128>, number: u32, weight: u32)
     requires { All (λ sum. sum < 2 ^ 127) sums.old.items }
     ensures { sums.new.items ≡ slice_set sums.old.items number (slice_index sums.old.items number + weight) }

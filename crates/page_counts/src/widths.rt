@@ -9,8 +9,8 @@ use crate::thousandth::rounded_down;
 // The step of the widest bins: they are 10^36 thousandths wide.
 const LAST_STEP: u32 = 108;
 
-// The least of these widths that is not below `unit`, and by which at most 20 bins have `least` and
-// `greatest`. The last one always serves, since the numbers are at most 10^36 in size.
+// The least width that bins may have which is not below `unit`, and by which at most 20 bins reach from
+// `least` to `greatest`. The last one always serves, since the numbers are at most 10^36 in size.
 pub(crate) fn width_over(least: i128, greatest: i128, unit: i128) -> i128
     requires least { unsigned_abs least ≤ 10 ^ 36 }
     requires greatest { unsigned_abs greatest ≤ 10 ^ 36 }
@@ -50,7 +50,7 @@ fn round_width(step: u32) -> i128
     factor(step % 3) * power_of_ten(step / 3)
 }
 
-// 1, 2 or 5, for the rests 0, 1 and 2 of a step.
+// By how much a width is more than its power of ten: 1, 2 or 5, for the rests 0, 1 and 2 of its step by 3.
 fn factor(rest: u32) -> i128
     requires { rest < 3 }
     ensures { result ≡ pos (slice_index (1 ∷ 2 ∷ 5 ∷ []) rest) }
@@ -62,7 +62,7 @@ fn factor(rest: u32) -> i128
     }
 }
 
-// Ten to this power.
+// Ten to this power, which is at most 36.
 fn power_of_ten(exponent: u32) -> i128
     requires { exponent ≤ 36 }
     ensures is { result ≡ pos (10 ^ exponent) }
