@@ -6,7 +6,7 @@ ghost use Rattle.std.specs.Int.{int_div_euclid, int_max, int_min};
 ghost use Rattle.page_counts.specs.Bins.{IsNarrowest, IsWithin, bin_low, bins_needed};
 
 use crate::bins::Bins;
-use crate::thousandth::rounded_down;
+use crate::thousandth::floor_quotient;
 use crate::widths::{bins_needed, width_over};
 
 impl Bins {
@@ -69,7 +69,7 @@ fn bins_of(least: i128, greatest: i128, width: i128) -> Bins
     ensures count { pos result.count ≡ bins_needed least greatest width }
 {
     Bins {
-        first: first_of(least, width),
+        first: lower_end(least, width),
         width,
         count: count_of(bins_needed(least, greatest, width)),
     }
@@ -88,11 +88,11 @@ fn count_of(needed: i128) -> u32
 
 // Where the bin of this width begins that has the thousandths `least`: at the last multiple of the width
 // that is not above them.
-fn first_of(least: i128, width: i128) -> i128
+fn lower_end(least: i128, width: i128) -> i128
     requires least { unsigned_abs least ≤ 10 ^ 36 }
     requires wide { pos 0 <ℤ width }
     requires small { unsigned_abs width ≤ 5 * 10 ^ 36 }
     ensures { result ≡ int_div_euclid least width *ℤ width }
 {
-    rounded_down(least, width) * width
+    floor_quotient(least, width) * width
 }

@@ -30,13 +30,13 @@ pub fn donors(alloc: Global, rows: u32, changes: &[Change]) -> Result<Vec<Amount
     let gifts = gifts_of(alloc, rows, changes)?;
     let mut donors = Vec::new(alloc);
     for number in 0..rows {
-        keep(&mut donors, number, gifts[number as usize].count)?;
+        push_donor(&mut donors, number, gifts[number as usize].count)?;
     }
     Ok(donors)
 }
 
 // Appends the donor `number`, which gave to `count` records. Nothing is appended where it gave to none.
-fn keep(donors: &mut Vec<Amount>, number: u32, count: u64) -> Result<(), OutOfMemory>
+fn push_donor(donors: &mut Vec<Amount>, number: u32, count: u64) -> Result<(), OutOfMemory>
     ensures { OnOk result (donors.new.items ≡ donors.old.items
         ++ (if nat_lt 0 count then record { number = number; size = count } ∷ [] else [])) }
 {
@@ -62,7 +62,7 @@ fn gifts_of(alloc: Global, rows: u32, changes: &[Change]) -> Result<Vec<Gifts>, 
     let mut gifts = vec![in alloc; none; rows as usize]?;
     for change in changes {
         if change.record < rows {
-            note(&mut gifts, change);
+            note_gift(&mut gifts, change);
         }
     }
     Ok(gifts)
@@ -70,7 +70,7 @@ fn gifts_of(alloc: Global, rows: u32, changes: &[Change]) -> Result<Vec<Gifts>, 
 
 // Notes the record of a change as one that the donor of the change gave to. Nothing is noted where the
 // change has no donor, or `gifts` no such record.
-fn note(gifts: &mut Vec<Gifts>, change: &Change)
+fn note_gift(gifts: &mut Vec<Gifts>, change: &Change)
     requires { All (λ (g : AnyGifts). g.count ≤ 2 ^ 32) gifts.old.items }
     ensures { gifts.new.items ≡ noted gifts.old.items change.now }
 {

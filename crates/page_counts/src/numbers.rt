@@ -46,7 +46,7 @@ pub fn least(values: &[Value]) -> Option<Fraction>
 {
     let mut least = None;
     for value in values {
-        least = with_least(least, value);
+        least = least_with(least, value);
     }
     least
 }
@@ -57,14 +57,14 @@ pub fn greatest(values: &[Value]) -> Option<Fraction>
 {
     let mut greatest = None;
     for value in values {
-        greatest = with_greatest(greatest, value);
+        greatest = greatest_with(greatest, value);
     }
     greatest
 }
 
 // The least number among some values and one more, where `least` is that of the former. None where there
 // is no number.
-fn with_least(least: Option<Fraction>, value: &Value) -> Option<Fraction>
+fn least_with(least: Option<Fraction>, value: &Value) -> Option<Fraction>
     ensures { (values : List AnyValue) → MatchOption least (HaveNoNumber values) (IsLeast values)
         → MatchOption result (HaveNoNumber (values ++ value.now ∷ [])) (IsLeast (values ++ value.now ∷ [])) }
 {
@@ -89,7 +89,7 @@ fn lesser_of(least: Option<Fraction>, number: Fraction) -> Fraction
 
 // The greatest number among some values and one more, where `greatest` is that of the former. None where
 // there is no number.
-fn with_greatest(greatest: Option<Fraction>, value: &Value) -> Option<Fraction>
+fn greatest_with(greatest: Option<Fraction>, value: &Value) -> Option<Fraction>
     ensures { (values : List AnyValue) → MatchOption greatest (HaveNoNumber values) (IsGreatest values)
         → MatchOption result (HaveNoNumber (values ++ value.now ∷ [])) (IsGreatest (values ++ value.now ∷ [])) }
 {

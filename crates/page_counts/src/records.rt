@@ -56,7 +56,7 @@ fn clean_count(
     ensures { IfOk result (λ count. count ≡ clean_count rows changes.now left_out.now) }
 {
     let marks = unclean_marks(alloc, rows, changes, left_out)?;
-    Ok(unmarked(&marks))
+    Ok(unmarked_count(&marks))
 }
 
 // How many of `rows` records were changed.
@@ -64,18 +64,18 @@ fn changed_count(alloc: Global, rows: u32, changes: &[Change]) -> Result<usize, 
     ensures { IfOk result (λ count. count ≡ changed_count rows changes.now) }
 {
     let marks = changed_marks(alloc, rows, changes)?;
-    Ok(marked(&marks))
+    Ok(marked_count(&marks))
 }
 
 // How many of the marks are true.
-fn marked(marks: &[bool]) -> usize
+fn marked_count(marks: &[bool]) -> usize
     ensures { result ≡ count_by (λ (mark : Bool). mark) marks.now }
 {
     marks.iter().filter(|mark| **mark).count()
 }
 
 // How many of the marks are false.
-fn unmarked(marks: &[bool]) -> usize
+fn unmarked_count(marks: &[bool]) -> usize
     ensures { result ≡ count_by not marks.now }
 {
     marks.iter().filter(|mark| !**mark).count()

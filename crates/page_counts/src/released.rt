@@ -22,13 +22,17 @@ pub fn released_rows(
     let marks = left_out_marks(alloc, rows, left_out)?;
     let mut numbers = Vec::new(alloc);
     for number in 0..rows {
-        keep(&mut numbers, number, marks[number as usize])?;
+        push_released_number(&mut numbers, number, marks[number as usize])?;
     }
     Ok(numbers)
 }
 
 // Appends the number of a record where it was not left out, and else nothing.
-fn keep(numbers: &mut Vec<u32>, number: u32, is_left_out: bool) -> Result<(), OutOfMemory>
+fn push_released_number(
+    numbers: &mut Vec<u32>,
+    number: u32,
+    is_left_out: bool,
+) -> Result<(), OutOfMemory>
     ensures { OnOk result (numbers.new.items ≡ numbers.old.items ++ (if is_left_out then [] else number ∷ [])) }
 {
     if !is_left_out {

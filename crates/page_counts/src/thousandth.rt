@@ -20,7 +20,7 @@ pub fn thousandths_of(number: &Fraction) -> Option<i128>
     if number.numerator().unsigned_abs() > MOST_NUMERATOR {
         return None;
     }
-    Some(rounded_down(thousand_times(number), number.denominator()))
+    Some(floor_quotient(thousand_times(number), number.denominator()))
 }
 
 // How many thousandths each value is, in order. None where it is no number, or its numerator is above 10^33
@@ -56,7 +56,7 @@ fn thousand_times(number: &Fraction) -> i128
 }
 
 // The quotient of `size` and `unit`, rounded down: -1 and 3 give -1.
-pub(crate) fn rounded_down(size: i128, unit: i128) -> i128
+pub(crate) fn floor_quotient(size: i128, unit: i128) -> i128
     requires few { unsigned_abs size ≤ 10 ^ 36 }
     requires some { pos 0 <ℤ unit }
     ensures is { result ≡ int_div_euclid size unit }

@@ -23,7 +23,7 @@ pub fn weights(
     let sums = weight_sums(alloc, survey, rows, changes)?;
     let mut weights = Vec::new(alloc);
     for number in 0..rows {
-        keep(
+        push_weight(
             &mut weights,
             number,
             marks[number as usize],
@@ -46,7 +46,7 @@ fn weight_sums(
 {
     let mut sums = vec![in alloc; 0; rows as usize]?;
     for change in changes {
-        add(&mut sums, change.record, field_weight(survey, change.field));
+        add_weight(&mut sums, change.record, field_weight(survey, change.field));
     }
     Ok(sums)
 }
@@ -62,7 +62,7 @@ fn field_weight(survey: &Survey, field: u32) -> u32
 }
 
 // Appends the record `number`, whose changes weigh `size`, where it was changed, and else nothing.
-fn keep(
+fn push_weight(
     weights: &mut Vec<Amount>,
     number: u32,
     is_changed: bool,
@@ -78,7 +78,7 @@ fn keep(
 }
 
 // Adds a weight to the sum of the record of this number. Nothing is added where `sums` has no such record.
-fn add(sums: &mut Vec<u128>, number: u32, weight: u32)
+fn add_weight(sums: &mut Vec<u128>, number: u32, weight: u32)
     requires { All (λ sum. sum < 2 ^ 127) sums.old.items }
     ensures { sums.new.items ≡ slice_set sums.old.items number (slice_index sums.old.items number + weight) }
 {

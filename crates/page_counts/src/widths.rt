@@ -4,7 +4,7 @@
 ghost use Rattle.std.specs.Prelude.{◌≡◌, ◌*◌, ◌<◌, ◌≤◌, ◌^◌, ◌∷◌, [], ◌+ℤ◌, ◌-ℤ◌, ◌<ℤ◌, ◌≤ℤ◌, pos, slice_index, unsigned_abs};
 ghost use Rattle.page_counts.specs.Bins.{IsNarrowest, bins_needed, reaches, round_width};
 
-use crate::thousandth::rounded_down;
+use crate::thousandth::floor_quotient;
 
 // The step of the widest bins: they are 10^36 thousandths wide.
 const LAST_STEP: u32 = 108;
@@ -79,11 +79,14 @@ pub(crate) fn bins_needed(least: i128, greatest: i128, width: i128) -> i128
     requires wide { pos 0 <ℤ width }
     ensures { result ≡ bins_needed least greatest width }
 {
-    from_to(rounded_down(least, width), rounded_down(greatest, width))
+    count_from_to(
+        floor_quotient(least, width),
+        floor_quotient(greatest, width),
+    )
 }
 
 // How many whole numbers there are from `first` to `last`, with both.
-fn from_to(first: i128, last: i128) -> i128
+fn count_from_to(first: i128, last: i128) -> i128
     requires first { unsigned_abs first ≤ 10 ^ 36 }
     requires last { unsigned_abs last ≤ 10 ^ 36 }
     ensures { result ≡ (last -ℤ first) +ℤ pos 1 }

@@ -16,6 +16,6 @@ loop-number-preserved c =
     let before : List Amount = map (λ donor. record { number = donor; size = gift_count rows changes donor })
     (filter (λ donor. nat_lt 0 (gift_count rows changes donor)) (range_with_len 0 n)) in
     let one : ℕ → List Amount = λ s. cond (nat_lt 0 s) (record { number = n; size = s } ∷ []) [] in
-    c.in_ok-keep.ensures ∙ ap (λ (ds : List Amount). ds ++ one c.index.result.now.count) c.loop-number.invariant
+    c.in_ok-push_donor.ensures ∙ ap (λ (ds : List Amount). ds ++ one c.index.result.now.count) c.loop-number.invariant
     ∙ ap (λ s. before ++ one s) counted
     ∙ sym (donors_more rows changes n)

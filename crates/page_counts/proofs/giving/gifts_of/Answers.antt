@@ -12,8 +12,8 @@ pub loop-change-init : goal.loop-change-init
 loop-change-init c =
     subst (λ (gs : List Gifts). AreAllGifts c.args.rows _ gs) (sym (c.in_ok-gifts.ensures.items_if_clones_equal (λ y same. same))) (gifts_begin c.args.rows)
 
-pub note-requires : goal.note-requires
-note-requires c = gifts_few c.args.rows (take c.loop-change.change-index c.args.changes.now) c.loop-change.gifts.items (omega arith) c.loop-change.invariant
+pub note_gift-requires : goal.note_gift-requires
+note_gift-requires c = gifts_few c.args.rows (take c.loop-change.change-index c.args.changes.now) c.loop-change.gifts.items (omega arith) c.loop-change.invariant
 
 pub loop-change-preserved : goal.loop-change-preserved
 loop-change-preserved c =
@@ -23,7 +23,7 @@ loop-change-preserved c =
     let here : change ≡ get_or changes i change = get_or_default changes i _ change c.loop-change-test.true in
     elim c.if-change-rows.branch [
       | then-change-rows w ↦ subst (λ (gs : List Gifts). AreAllGifts c.args.rows (take (i + 1) changes) gs)
-          (sym (ap (λ v. v.items) w.gifts-is ∙ w.note.ensures))
+          (sym (ap (λ v. v.items) w.gifts-is ∙ w.note_gift.ensures))
           (gifts_noted c.args.rows changes c.requires i change c.loop-change-test.true here
           c.loop-change.gifts.items c.loop-change.invariant w.if-change-rows.true)
       | else-change-rows w ↦ subst (λ (gs : List Gifts). AreAllGifts c.args.rows (take (i + 1) changes) gs)

@@ -7,9 +7,9 @@ use Rattle.page_counts.proofs.numbers.greatest.Goals as goal
 pub loop-value-preserved : goal.loop-value-preserved
 loop-value-preserved c =
     let before = take c.loop-value.value-index c.args.values.now in
-    subst (λ (vs : List Value). MatchOption c.with_greatest-greatest.result (HaveNoNumber vs) (IsGreatest vs))
+    subst (λ (vs : List Value). MatchOption c.greatest_with-greatest.result (HaveNoNumber vs) (IsGreatest vs))
     (sym (take_more c.args.values.now c.loop-value.value-index c.value-item.result (omega arith) ∙ ap (λ (v : Value). before ++ v ∷ []) (sym c.value-item.is)))
-    (c.with_greatest-greatest.ensures before c.loop-value.invariant)
+    (c.greatest_with-greatest.ensures before c.loop-value.invariant)
 
 pub returns : goal.returns
 returns c =

@@ -7,9 +7,9 @@ use Rattle.page_counts.proofs.numbers.least.Goals as goal
 pub loop-value-preserved : goal.loop-value-preserved
 loop-value-preserved c =
     let before = take c.loop-value.value-index c.args.values.now in
-    subst (λ (vs : List Value). MatchOption c.with_least-least.result (HaveNoNumber vs) (IsLeast vs))
+    subst (λ (vs : List Value). MatchOption c.least_with-least.result (HaveNoNumber vs) (IsLeast vs))
     (sym (take_more c.args.values.now c.loop-value.value-index c.value-item.result (omega arith) ∙ ap (λ (v : Value). before ++ v ∷ []) (sym c.value-item.is)))
-    (c.with_least-least.ensures before c.loop-value.invariant)
+    (c.least_with-least.ensures before c.loop-value.invariant)
 
 pub returns : goal.returns
 returns c =

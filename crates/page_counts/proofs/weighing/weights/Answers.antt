@@ -18,7 +18,7 @@ loop-number-preserved c =
     get_or_read c.in_ok-sums.sums.items n c.index-in-loop-number.result.now (omega
     (arith, c.in_ok-sums.sums.ok.0, c.in_ok-sums.ensures.length)) c.index-in-loop-number.ensures 0 ∙ c.in_ok-sums.ensures.sums n (omega arith) in
     let one : Bool → ℕ → List Amount = λ b s. cond b (record { number = n; size = s } ∷ []) [] in
-    c.in_ok-keep.ensures ∙ ap (λ (ws : List Amount). ws ++ one c.index.result.now c.index-in-loop-number.result.now) c.loop-number.invariant
+    c.in_ok-push_weight.ensures ∙ ap (λ (ws : List Amount). ws ++ one c.index.result.now c.index-in-loop-number.result.now) c.loop-number.invariant
     ∙ ap (λ (b : Bool). weights_of fields n changes ++ one b c.index-in-loop-number.result.now) marked
     ∙ ap (λ (s : ℕ). weights_of fields n changes ++ one (is_changed changes n) s) summed
     ∙ sym (weights_more fields changes n)

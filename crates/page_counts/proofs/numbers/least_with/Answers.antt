@@ -2,7 +2,7 @@ use Rattle.std.proofs.Common.{◌∙◌, ◌++◌, [], ◌∷◌, subst, sym}
 use Rattle.edit_model.specs.declared.value.Value.{Value}
 use Rattle.page_counts.specs.Numbers.{IsLeast, IsAtMost}
 use Rattle.page_counts.proofs.NumberLaws.{IsAtMost-itself, IsAtMost-trans, first_beside}
-use Rattle.page_counts.proofs.numbers.with_least.Goals as goal
+use Rattle.page_counts.proofs.numbers.least_with.Goals as goal
 
 pub returns-in-Number : goal.returns-in-Number
 returns-in-Number c = λ values first. subst (λ (v : Value). IsLeast (values ++ v ∷ []) c.lesser_of.result) (sym c.in-Number.is)

@@ -2,7 +2,7 @@ use Rattle.std.proofs.Common.{◌∙◌, ◌++◌, [], ◌∷◌, subst, sym}
 use Rattle.edit_model.specs.declared.value.Value.{Value}
 use Rattle.page_counts.specs.Numbers.{IsGreatest, IsAtLeast}
 use Rattle.page_counts.proofs.NumberLaws.{IsAtLeast-itself, IsAtLeast-trans, first_beside}
-use Rattle.page_counts.proofs.numbers.with_greatest.Goals as goal
+use Rattle.page_counts.proofs.numbers.greatest_with.Goals as goal
 
 pub returns-in-Number : goal.returns-in-Number
 returns-in-Number c = λ values first. subst (λ (v : Value). IsGreatest (values ++ v ∷ []) c.greater_of.result) (sym c.in-Number.is)
