@@ -20,6 +20,7 @@ pub record BarParts : Type 0 where
   pub label : List ℕ
   pub parts : List ℕ
 
+-- what is seen of a bar
 abbrev pub parts_of : Bar → BarParts
 parts_of bar = record { label = bar.label.now; parts = bar.parts.now }
 
@@ -37,6 +38,7 @@ pub record FigureParts : Type 0 where
   pub description : List ℕ
   pub subject : List ℕ
 
+-- what is seen of a figure
 abbrev pub figure_parts : Figure → FigureParts
 figure_parts figure =
     record { id = figure.id; title = figure.title.now; description = figure.description.now; subject = figure.subject.now }
@@ -47,6 +49,7 @@ figure_parts figure =
 abbrev pub drawing_attributes : ℕ → List ℕ → Attributes
 drawing_attributes id view = image (codes "title-" ++ (decimal id ++ (codes " description-" ++ decimal id))) view
 
+-- the title and the description, as elements that the drawing names
 abbrev pub names_content : FigureParts → Content → Content
 names_content figure rest =
     Element Title (named (codes "title-" ++ decimal figure.id)) (Words figure.title Nothing)
@@ -115,9 +118,11 @@ abbrev pub bars_below : ℕ → ℕ → List BarParts → Content
 bars_below greatest y [] = Nothing
 bars_below greatest y (bar ∷ bars) = bar_content greatest y bar (bars_below greatest (plus y 26) bars)
 
+-- how high a drawing of these bars is: 26 units for each
 abbrev pub bars_height : List BarParts → ℕ
 bars_height bars = min (length bars * 26) (2 ^ 64 - 1)
 
+-- the drawing of bars, with the line at which they begin
 abbrev pub bar_drawing : FigureParts → ℕ → List BarParts → Content
 bar_drawing figure greatest bars =
     Element Drawing (drawing_attributes figure.id (codes "0 0 784 " ++ decimal (bars_height bars)))
@@ -131,6 +136,7 @@ bar_drawing figure greatest bars =
 abbrev pub bin_pitch : ℕ → ℕ
 bin_pitch count = min (max (640 / max count 1) 1) 80
 
+-- what all bins of a drawing share
 abbrev pub layout_of : ℕ → List BarParts → Layout
 layout_of greatest bins =
     record {
@@ -165,6 +171,7 @@ bin_content layout x wait bin rest =
 abbrev pub next_wait : ℕ → ℕ → ℕ
 next_wait step wait = if wait == 0 then step - 1 else wait - 1
 
+-- bins, each one pitch to the right of the one before
 abbrev pub bins_content : Layout → ℕ → ℕ → List BarParts → Content
 bins_content layout x wait [] = Nothing
 bins_content layout x wait (bin ∷ bins) =
@@ -177,6 +184,7 @@ level_content class number y rest =
     (line_content class 88 y 784 y
     (Element Label (text_at 80 y (codes "end")) (Words (decimal number) Nothing) Nothing)) rest
 
+-- the drawing of bins: a line at the greatest number, the bins, and the line on which they stand
 abbrev pub bin_drawing : FigureParts → ℕ → List BarParts → Content
 bin_drawing figure greatest bins =
     Element Drawing (drawing_attributes figure.id (codes "0 0 784 296"))

@@ -39,6 +39,7 @@ reach Upright parts = greatest_of parts
 abbrev pub greatest_in : Form → List BarParts → ℕ
 greatest_in form bars = greatest_of (map (λ (bar : BarParts). reach form bar.parts) bars)
 
+-- the drawing of bars in this form, to the scale of the greatest number
 abbrev pub drawing_content : Form → FigureParts → ℕ → List BarParts → Content
 drawing_content Stacked figure greatest bars = bar_drawing figure greatest bars
 drawing_content Upright figure greatest bars = bin_drawing figure greatest bars
@@ -71,6 +72,7 @@ abbrev pub has_totals : Form → ℕ → Bool
 has_totals Stacked series = nat_lt 1 series
 has_totals Upright series = false
 
+-- the names of the table's columns: what a bar stands for, the series, and the total where it has one
 abbrev pub columns_of : List ℕ → List (List ℕ) → Bool → List (List ℕ)
 columns_of subject series totals = subject ∷ (series ++ (if totals then codes "total" ∷ [] else []))
 
@@ -78,6 +80,7 @@ columns_of subject series totals = subject ∷ (series ++ (if totals then codes 
 abbrev pub entries_of : Bool → BarParts → List Entry
 entries_of totals bar = Text bar.label ∷ (map Number bar.parts ++ (if totals then Number (total_of bar.parts) ∷ [] else []))
 
+-- the table of all numbers of a figure
 abbrev pub numbers_content : Form → FigureParts → List (List ℕ) → List BarParts → Content
 numbers_content form figure series bars =
     table_content figure.title (columns_of figure.subject series (has_totals form (length series)))

@@ -14,6 +14,7 @@ pub data Entry : Type 0 where
   Number : ℕ → Entry
   Text : List ℕ → Entry
 
+-- what a cell shows, seen of the cell
 abbrev pub entry_of : Cell → Entry
 entry_of (cell.Number n) = Number n
 entry_of (cell.Text words) = Text words.now
@@ -51,6 +52,7 @@ abbrev pub row_content : List Entry → Content
 row_content [] = Nothing
 row_content (head ∷ entries) = head_content head (cells_content entries)
 
+-- the rows behind the first
 abbrev pub rows_content : List (List Entry) → Content
 rows_content [] = Nothing
 rows_content (row ∷ rows) = Element tag.Row [] (row_content row) (rows_content rows)
@@ -59,6 +61,7 @@ rows_content (row ∷ rows) = Element tag.Row [] (row_content row) (rows_content
 abbrev pub names_row : List (List ℕ) → Content
 names_row columns = Element tag.Row [] (columns_content columns) Nothing
 
+-- the table itself, without its box
 abbrev pub grid_content : List ℕ → List (List ℕ) → List (List Entry) → Content
 grid_content caption columns rows =
     Element tag.Table []

@@ -1,5 +1,6 @@
-//! The drawing of horizontal bars, one below the other, each of parts that stand side by side. In
-//! contracts, `added` says what content is put last in the page's innermost open element.
+//! The drawing of horizontal bars, one below the other, each of parts that stand side by side. Places are
+//! in units from the left and from above. In contracts, `added` says what content is put last in the page's
+//! innermost open element, and `parts_of` is what definitions see of a bar.
 ghost use Rattle.std.specs.Prelude.{◌≡◌, [], map, OnOk};
 ghost use Rattle.page_markup.specs.OpenPages.{added};
 ghost use Rattle.page_markup.specs.Trees.Content.{Element, Nothing};

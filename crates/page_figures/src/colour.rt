@@ -24,7 +24,7 @@ impl Colour {
         }
     }
 
-    /// The name of its class in the style sheet. No memory.
+    /// The name that the style sheet has for the class of this colour. No memory.
     #[tactic(auto, unfolding(crate::specs::Colours::colour_class))]
     pub(crate) fn class(self) -> &'static [u8]
         ensures { result.now ≡ colour_class self }

@@ -14,9 +14,9 @@ use foundation::OutOfMemory;
 use page_markup::{Attribute, PageWriter, Tag, Value, VoidTag};
 use std::alloc::Global;
 
-/// Opens a drawing of these coordinates, which the caller closes. `view` has its left and upper end, its
-/// width and its height. The drawing's title and description are added, by which a screen reader names
-/// it.
+/// Opens a drawing, which the caller closes. `view` has its left and upper end, its width and its height, as
+/// in `0 0 784 296`. The figure's title and description are added, by which a screen reader names the
+/// drawing.
 pub(crate) fn open_drawing(
     alloc: Global,
     page: &mut PageWriter,
@@ -100,7 +100,8 @@ pub(crate) fn push_rectangle(
     )
 }
 
-/// Adds a line from `x1` and `y1` to `x2` and `y2`, of a class of the style sheet.
+/// Adds a line of a class of the style sheet. It goes from the place `x1` and `y1` to `x2` and `y2`, in units
+/// from the left and from above.
 #[tactic(auto, unfolding(crate::specs::Attributes::line_at))]
 pub(crate) fn push_line(
     page: &mut PageWriter,

@@ -91,7 +91,8 @@ pub fn push_histogram(
     push_figure(alloc, page, Form::Upright, figure, series, bins)
 }
 
-// Adds a picture of this form with its title and its table. `series` are the names of the series.
+// Adds a figure of this form: its title, its picture, and the table of its numbers. `series` are the names of
+// the numbers that each bar has.
 fn push_figure(
     alloc: Global,
     page: &mut PageWriter,
@@ -129,8 +130,8 @@ fn push_picture(
     push_shown(alloc, page, form, figure, bars)
 }
 
-// Adds the drawing of the bars. Where there are more than `MOST`, a note is added first, and those from
-// the 64th on are summed in one.
+// Adds the drawing of the bars. Where there are more than `MOST`, a note is added first, and the bars from
+// the 64th on, counted from 1, are drawn as one bar of their sums.
 fn push_shown(
     alloc: Global,
     page: &mut PageWriter,
@@ -148,8 +149,8 @@ fn push_shown(
     push_summed(alloc, page, form, figure, first, rest)
 }
 
-// Adds the drawing of the bars `first`, which give the scale, and of the sum of the bars `rest`, as one
-// bar more.
+// Adds the drawing of the bars `first`, and of one bar more, which has the sums of the bars `rest`. The scale
+// is that of `first` alone.
 fn push_summed(
     alloc: Global,
     page: &mut PageWriter,

@@ -1,5 +1,6 @@
-//! The drawing of upright bars side by side, over the same bins. In contracts, `added` says what content
-//! is put last in the page's innermost open element.
+//! The drawing of upright bars side by side, over the same bins. Places are in units from the left and from
+//! above. In contracts, `added` says what content is put last in the page's innermost open element, and
+//! `parts_of` is what definitions see of a bin.
 ghost use Rattle.std.specs.Prelude.{◌≡◌, [], map, OnOk};
 ghost use Rattle.page_markup.specs.OpenPages.{added};
 ghost use Rattle.page_markup.specs.Trees.Content.{Element, Nothing};
@@ -44,7 +45,7 @@ pub(crate) fn push_bin_drawing(
     page.close()
 }
 
-// Adds a line of a class at the height `y`, with the number to its left.
+// Adds a horizontal line of a class of the style sheet, `y` units from above, with the number to its left.
 fn push_level(page: &mut PageWriter, class: &[u8], number: u64, y: u64) -> Result<(), OutOfMemory>
     ensures { OnOk result (page.new ≡ added (level_content class.now number y Nothing) page.old) }
 {
@@ -116,8 +117,8 @@ fn next_wait(wait: u64, step: u64) -> u64
     }
 }
 
-// Adds a bin whose left end is at `x`, with its label where `wait` is 0. A mouse that rests on it shows
-// the whole label.
+// Adds a bin whose left end is at `x`. It has its label where `wait` is 0, and else none. A mouse that rests
+// on the bin shows the whole label.
 fn push_bin(
     page: &mut PageWriter,
     bin: Bar,

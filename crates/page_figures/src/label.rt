@@ -82,7 +82,7 @@ fn push_shortened(page: &mut PageWriter, label: &[u8], most: usize) -> Result<()
     }
 }
 
-// Adds the start of a label, at most `end` bytes and no cut character, and an ellipsis.
+// Adds the start of a label, of at most `end` bytes and whole characters, and an ellipsis behind it.
 fn push_start(page: &mut PageWriter, label: &[u8], end: usize) -> Result<(), OutOfMemory>
     requires { end < length label.now }
     ensures { OnOk result (page.new ≡ added
@@ -92,8 +92,8 @@ fn push_start(page: &mut PageWriter, label: &[u8], end: usize) -> Result<(), Out
     page.text(ELLIPSIS)
 }
 
-// The greatest place up to `end` at which no byte goes on with a character of UTF-8, or 0. So a label
-// that is cut there has whole characters. No memory.
+// Where a label is cut, so that no character of UTF-8 is cut: the greatest place up to `end` at which a
+// character may begin. It is 0 where there is no such place. No memory.
 #[tactic(auto, using(crate::proofs::PageLaws::boundaries))]
 fn boundary(label: &[u8], end: usize) -> usize
     requires { end < length label.now }
@@ -109,7 +109,7 @@ fn boundary(label: &[u8], end: usize) -> usize
     boundary(label, end - 1)
 }
 
-// Whether a byte goes on with a character of UTF-8. No memory.
+// Whether a byte belongs to a character of UTF-8 that began before it: those from 128 to 191. No memory.
 fn goes_on(byte: u8) -> bool
     ensures { result ≡ goes_on byte }
 {

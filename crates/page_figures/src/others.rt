@@ -1,4 +1,5 @@
-//! The sum of bars that have no place in a picture.
+//! The sum of the bars that have no place in a picture, as one bar more. In contracts, `parts_of` is what
+//! definitions see of a bar.
 ghost use Rattle.std.specs.Prelude.{◌≡◌, ◌++◌, ◌∷◌, [], codes, get_or, IfOk, map};
 ghost use Rattle.std.specs.Fmt.{decimal};
 ghost use Rattle.page_figures.specs.Drawings.{parts_of};
@@ -27,7 +28,7 @@ pub(crate) fn sums_of(alloc: Global, bars: &[Bar]) -> Result<Vec<u64>, OutOfMemo
     Ok(sums)
 }
 
-/// These bars, and one more.
+/// A list of these bars, with the bar `more` behind them.
 pub(crate) fn bars_with<'a>(
     alloc: Global,
     bars: &'a [Bar],

@@ -1,4 +1,5 @@
-//! Sums, the greatest of numbers, and lengths in a picture.
+//! Sums, the greatest of numbers, and lengths in a picture. In contracts, `parts_of` is what definitions see of
+//! a bar.
 ghost use Rattle.std.specs.Prelude.{◌≡◌, map};
 ghost use Rattle.page_figures.specs.Drawings.{longest_label, most_parts, parts_of};
 ghost use Rattle.page_figures.specs.Figures.{greatest_in, reach};

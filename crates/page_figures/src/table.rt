@@ -59,7 +59,7 @@ fn push_grid(
     page.close()
 }
 
-// Adds the head of a table: the one row that names the columns.
+// Adds the head of a table, which holds the one row that names the columns.
 fn push_columns(page: &mut PageWriter, columns: &[&[u8]]) -> Result<(), OutOfMemory>
     ensures { OnOk result (page.new ≡ added
         (Element TableHead [] (names_row (map (λ c. c.now) columns.now)) Nothing) page.old) }
@@ -69,7 +69,7 @@ fn push_columns(page: &mut PageWriter, columns: &[&[u8]]) -> Result<(), OutOfMem
     page.close()
 }
 
-// Adds the row that names the columns.
+// Adds the row that names the columns: a head cell for each of these names.
 fn push_names(page: &mut PageWriter, columns: &[&[u8]]) -> Result<(), OutOfMemory>
     ensures { OnOk result (page.new ≡ added (names_row (map (λ c. c.now) columns.now)) page.old) }
 {

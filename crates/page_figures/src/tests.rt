@@ -6,7 +6,7 @@ use page_markup::PageWriter;
 use std::alloc::Global;
 use std::test::Fail;
 
-/// Two bars, one of them with a long label.
+/// The page of two bars, one of which has a label that is cut.
 const BARS: &[u8] = b"<!DOCTYPE html>
 <html lang=\"en\">
 <figure><figcaption>Values</figcaption><p class=\"legend\">\
@@ -32,7 +32,7 @@ const BARS: &[u8] = b"<!DOCTYPE html>
 </html>
 ";
 
-/// Two bins with one series.
+/// The page of two bins with one series.
 const BINS: &[u8] = b"<!DOCTYPE html>
 <html lang=\"en\">
 <figure><figcaption>Ages</figcaption><p class=\"legend\">\
@@ -50,7 +50,7 @@ const BINS: &[u8] = b"<!DOCTYPE html>
 </html>
 ";
 
-// A page with the bars, and nothing else.
+// The page that is written with the two bars, and nothing else.
 fn bars_page(alloc: Global) -> Result<Vec<u8>, OutOfMemory> {
     let mut page = PageWriter::new(alloc, b"en")?;
     let figure = Figure {
@@ -73,7 +73,7 @@ fn bars_page(alloc: Global) -> Result<Vec<u8>, OutOfMemory> {
     page.finish()
 }
 
-// A page with the bins, and nothing else.
+// The page that is written with the two bins, and nothing else.
 fn bins_page(alloc: Global) -> Result<Vec<u8>, OutOfMemory> {
     let mut page = PageWriter::new(alloc, b"en")?;
     let figure = Figure {
@@ -96,6 +96,7 @@ fn bins_page(alloc: Global) -> Result<Vec<u8>, OutOfMemory> {
     page.finish()
 }
 
+// The page of bars is the one that was written by hand, byte for byte.
 #[test]
 fn bars_stand_over_a_table_with_their_totals(rt: HostRuntime) -> Result<(), Fail> {
     let page = bars_page(rt.alloc())?;
@@ -103,6 +104,7 @@ fn bars_stand_over_a_table_with_their_totals(rt: HostRuntime) -> Result<(), Fail
     Ok(())
 }
 
+// The page of bins is the one that was written by hand, byte for byte.
 #[test]
 fn bins_stand_over_a_table_of_their_numbers(rt: HostRuntime) -> Result<(), Fail> {
     let page = bins_page(rt.alloc())?;
