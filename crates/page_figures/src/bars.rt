@@ -13,7 +13,7 @@ use crate::drawing::{Place, open_drawing, push_line, push_rectangle};
 use crate::elements::push_words;
 use crate::figure::{Bar, Figure};
 use crate::label::{push_label, push_number_at};
-use crate::scale::{scaled, total_of};
+use crate::scale::{scaled_length, total_of};
 use foundation::OutOfMemory;
 use page_markup::{PageWriter, Tag};
 use std::alloc::Global;
@@ -92,7 +92,7 @@ fn push_parts(
     let mut x = START;
     let mut colour = Colour::First;
     for part in parts {
-        let width = scaled(*part, greatest, LONGEST);
+        let width = scaled_length(*part, greatest, LONGEST);
         let place = Place {
             x,
             y: y.saturating_add(4),

@@ -127,12 +127,12 @@ fn push_picture(
         return push_words(page, Tag::Paragraph, &[], b"nothing to show");
     }
     push_legend(page, series)?;
-    push_shown(alloc, page, form, figure, bars)
+    push_shown_bars(alloc, page, form, figure, bars)
 }
 
 // Adds the drawing of the bars. Where there are more than `MOST`, a note is added first, and the bars from
 // the 64th on, counted from 1, are drawn as one bar of their sums.
-fn push_shown(
+fn push_shown_bars(
     alloc: Global,
     page: &mut PageWriter,
     form: Form,
@@ -146,12 +146,12 @@ fn push_shown(
     }
     push_words(page, Tag::Paragraph, &[], NOTE)?;
     let (first, rest) = bars.split_at(MOST - 1);
-    push_summed(alloc, page, form, figure, first, rest)
+    push_bars_and_sum(alloc, page, form, figure, first, rest)
 }
 
 // Adds the drawing of the bars `first`, and of one bar more, which has the sums of the bars `rest`. The scale
 // is that of `first` alone.
-fn push_summed(
+fn push_bars_and_sum(
     alloc: Global,
     page: &mut PageWriter,
     form: Form,

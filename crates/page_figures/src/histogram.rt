@@ -14,7 +14,7 @@ use crate::drawing::{Place, open_drawing, push_line, push_rectangle};
 use crate::elements::push_words;
 use crate::figure::{Bar, Figure};
 use crate::label::{push_label, push_number_at};
-use crate::scale::{longest_label, most_parts, scaled};
+use crate::scale::{longest_label, most_parts, scaled_length};
 use foundation::OutOfMemory;
 use page_markup::{PageWriter, Tag};
 use std::alloc::Global;
@@ -159,7 +159,7 @@ fn push_uprights(
     let mut x = start;
     let mut colour = Colour::First;
     for part in parts {
-        let height = scaled(*part, layout.greatest, GREATEST);
+        let height = scaled_length(*part, layout.greatest, GREATEST);
         let place = Place {
             x,
             y: GROUND.saturating_sub(height),

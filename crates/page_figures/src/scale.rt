@@ -9,7 +9,7 @@ use crate::figure::{Bar, Form};
 
 /// The units that stand for a value where `most` units stand for `greatest`: value * most / greatest,
 /// rounded down. It is at most `most`, 0 for 0, and at least 1 for a value above it. No memory.
-pub(crate) fn scaled(value: u64, greatest: u64, most: u64) -> u64
+pub(crate) fn scaled_length(value: u64, greatest: u64, most: u64) -> u64
     ensures { result ≡ scaled most greatest value }
 {
     if value == 0 {

@@ -4,7 +4,7 @@ use Rattle.page_markup.specs.Trees.{Content}
 use Rattle.page_figures.proofs.FigureLaws.{shown-summed}
 use Rattle.page_figures.specs.Drawings.{figure_parts, parts_of}
 use Rattle.page_figures.specs.Figures.{note, summed_content}
-use Rattle.page_figures.proofs.figure.push_shown.Goals as goal
+use Rattle.page_figures.proofs.figure.push_shown_bars.Goals as goal
 
 pub returns : goal.returns
 unfolding Rattle.page_figures.specs.Figures.note
@@ -12,8 +12,8 @@ returns c =
     let told = Element tag.Paragraph [] (Words note Nothing) Nothing in
     let first = map parts_of c.split_at.result.0.now in
     let summed = summed_content c.args.form (figure_parts c.args.figure.now) first (map parts_of c.split_at.result.1.now) in
-    on_ok_weaker c.push_summed.result (λ e.
-    both told summed c.args.page.now c.push_words.new.page c.push_summed.new.page c.in_ok-push_words.ensures e
+    on_ok_weaker c.push_bars_and_sum.result (λ e.
+    both told summed c.args.page.now c.push_words.new.page c.push_bars_and_sum.new.page c.in_ok-push_words.ensures e
     ∙ ap (λ (w : Content). added w c.args.page.now)
     (shown-summed c.args.form (figure_parts c.args.figure.now) c.args.bars.now c.split_at.result.0.now c.split_at.result.1.now
-    c.if-bars-le-MOST.false c.split_at.ensures.front c.split_at.ensures.back)) c.push_summed.ensures
+    c.if-bars-le-MOST.false c.split_at.ensures.front c.split_at.ensures.back)) c.push_bars_and_sum.ensures
