@@ -46,6 +46,7 @@ summary rows counts =
     decimal rows ++ (codes " records: " ++ (decimal counts.clean ++ (codes " clean, " ++ (decimal counts.changed ++ (codes " changed, "
     ++ (decimal (left_out_total counts) ++ codes " left out."))))))
 
+-- the header of the page: the first heading, and what became of the records
 abbrev pub header_content : ℕ → RecordCounts → Content
 header_content rows counts =
     Element tag.Header []
@@ -63,6 +64,7 @@ sections_content release figures =
     (followed (greatest_section release figures)
     (donor_section figures.gifts))))))
 
+-- the body of the page: its header and its sections
 abbrev pub body_content : ReleaseParts → ReleaseFigures → Content
 body_content release figures =
     Element tag.Body []

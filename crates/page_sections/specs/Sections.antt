@@ -23,6 +23,7 @@ histogram_content figure series bins = figure_content Upright figure series bins
 
 -- ---- bars
 
+-- what is seen of a bar
 abbrev pub bar_parts : OwnBar → BarParts
 bar_parts bar = record { label = bar.label.items; parts = bar.parts.items }
 

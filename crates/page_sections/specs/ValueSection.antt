@@ -35,6 +35,7 @@ value_figure name i description subject =
 
 -- ---- a numerical field
 
+-- what the histogram of a numerical field shows, for those who hear the page read aloud
 unfoldable pub bin_description : List ℕ
 bin_description =
     codes "Two upright bars for each bin: how many values were in it before, and how many are after. A bin is named by its lower end."
@@ -44,6 +45,7 @@ abbrev pub bin_bar : Bins → NumberValues → ℕ → BarParts
 bin_bar bins numbers i =
     pair_bar (decimal_text (bin_low bins i)) (slice_index numbers.before.counts i) (slice_index numbers.after.counts i)
 
+-- a bar for each bin; none where there are no bins
 abbrev pub bin_bars : Option Bins → NumberValues → List BarParts
 bin_bars None numbers = []
 bin_bars (Some bins) numbers = map (bin_bar bins numbers) (range_with_len 0 bins.count)
@@ -65,9 +67,11 @@ total_rows numbers =
     ∷ count_row (codes "in no bin") numbers.before.beyond numbers.after.beyond
     ∷ []
 
+-- the table of these totals, before and after
 abbrev pub totals_content : NumberValues → Content
 totals_content numbers = table_content (codes "Totals") ([] ∷ codes "before" ∷ codes "after" ∷ []) (total_rows numbers)
 
+-- what is shown of a numerical field: its histogram and its totals
 abbrev pub numbers_content : List ℕ → ℕ → NumberValues → Content
 numbers_content name i numbers =
     followed (histogram_content (value_figure name i bin_description (codes "from")) value_series (bin_bars numbers.bins numbers))
@@ -75,6 +79,7 @@ numbers_content name i numbers =
 
 -- ---- a categorical field
 
+-- what the histogram of a categorical field shows, for those who hear the page read aloud
 unfoldable pub code_description : List ℕ
 code_description = codes "Two upright bars for each code: how many values it had before, and how many it has after."
 
@@ -87,6 +92,7 @@ abbrev pub code_bars : List (List ℕ) → CodeCounts → CodeCounts → List Ba
 code_bars names before after =
     map (code_bar names before after) (range_with_len 0 (length names)) ++ pair_bar (codes "no value") before.none after.none ∷ []
 
+-- what is shown of a categorical field: its histogram
 abbrev pub codes_content : List ℕ → ℕ → List (List ℕ) → CodeCounts → CodeCounts → Content
 codes_content name i names before after =
     histogram_content (value_figure name i code_description (codes "code")) value_series (code_bars names before after)

@@ -44,8 +44,8 @@ pub(crate) fn push_fields(
     page.close()
 }
 
-// A bar for each of the fields of these amounts, in this order. `counts` has how often each field was
-// changed, in declared order.
+// A bar for each of these amounts, in their order: an amount has the number of a field and how often it was
+// changed. `counts` has how often each field was changed in each way, in declared order.
 fn field_bars(
     alloc: Global,
     fields: &[Field],
@@ -77,7 +77,7 @@ fn field_bar(
     })
 }
 
-/// The name of the field of this number, no byte where there is none. No memory.
+/// The name of the field of this number, from 0, and no byte where there is no such field. No memory.
 pub(crate) fn name_at(fields: &[Field], number: usize) -> &[u8]
     ensures { result.now ≡ name_at fields.now number }
 {
@@ -87,8 +87,8 @@ pub(crate) fn name_at(fields: &[Field], number: usize) -> &[u8]
     }
 }
 
-// How often the field of this number was changed: with a donor's value, with the nearest one, and by
-// default. No parts where there is no such field.
+// How often the field of this number, from 0, was changed: with a donor's value, with the nearest one that
+// the rules allow, and by default. No parts where there is no such field.
 fn change_parts(
     alloc: Global,
     counts: &[FieldCount],

@@ -1,6 +1,7 @@
 //! The section on the records whose changes weigh most, change by change. In contracts, `added` says
 //! what content is put last in the page, and `entry_of` is what definitions see of a cell. `numbers` are
-//! everywhere the numbers of the released records, in order.
+//! everywhere the numbers of the released records, from 0 and in order. An amount has the number of a
+//! record, from 0, and what its changes weigh.
 ghost use Rattle.std.specs.Prelude.{◌≡◌, ◌++◌, IfOk, OnOk, map};
 ghost use Rattle.page_markup.specs.OpenPages.{added};
 ghost use Rattle.page_figures.specs.Tables.{entry_of};
@@ -46,7 +47,7 @@ pub(crate) fn push_greatest(
     page.close()
 }
 
-// The rows of the records `greatest`, in their order.
+// The rows of the records whose numbers `greatest` has, in their order: one for each change of each.
 fn greatest_rows<'a>(
     alloc: Global,
     release: &Release<'a>,
@@ -81,7 +82,7 @@ fn push_record_rows<'a>(
     Ok(())
 }
 
-// Appends the row of a change, where it is one of the record whose number the amount has.
+// Appends the row of a change, where it is one of the record whose number the amount has, and else nothing.
 fn push_change<'a>(
     alloc: Global,
     rows: &mut Vec<Vec<Cell<'a>>>,
@@ -100,8 +101,8 @@ fn push_change<'a>(
     Ok(())
 }
 
-// The row of a change. It has the number of its record, from 1, the weight of all changes of that, the
-// field's name, and its bytes before and after.
+// The row of a change. It has the number of its record, from 1, and what all changes of that record weigh.
+// Then come the name of the changed field, and its bytes before and after.
 fn change_row<'a>(
     alloc: Global,
     release: &Release<'a>,
@@ -123,7 +124,7 @@ fn change_row<'a>(
     ]?)
 }
 
-// A size; past 64 bits it is 2^64 - 1.
+// A weight as a cell shows it: past 64 bits it is 2^64 - 1.
 fn shown(size: u128) -> u64
     ensures { result ≡ shown size }
 {

@@ -27,7 +27,7 @@ pub(crate) fn push_head(page: &mut PageWriter) -> Result<(), OutOfMemory>
     page.close()
 }
 
-// Says that the page is as wide as the screen.
+// Adds the element by which the page is as wide as the screen.
 fn push_viewport(page: &mut PageWriter) -> Result<(), OutOfMemory>
     ensures { OnOk result (page.new ≡ added viewport_content page.old) }
 {
@@ -43,7 +43,8 @@ fn push_viewport(page: &mut PageWriter) -> Result<(), OutOfMemory>
     )
 }
 
-/// Adds the first heading, and a sentence on what became of the records, of which there are `rows`.
+/// Adds the page's header: the first heading, and a sentence on what became of the records. `rows` is how many
+/// records there are.
 pub(crate) fn push_header(
     alloc: Global,
     page: &mut PageWriter,
@@ -59,7 +60,8 @@ pub(crate) fn push_header(
     page.close()
 }
 
-// How many records there are, and what became of them: `9 records: 5 clean, 3 changed, 1 left out.`
+// The sentence that says how many records there are, and what became of them, such as
+// `9 records: 5 clean, 3 changed, 1 left out.`
 fn summary(alloc: Global, rows: u32, counts: &RecordCounts) -> Result<Vec<u8>, OutOfMemory>
     ensures { IfOk result (λ words. words.items ≡ summary rows counts.now) }
 {

@@ -1,5 +1,6 @@
-//! Bars with memory of their own, and their figures. In contracts, `bar_parts` is what definitions see
-//! of a bar, and `added` says what content is put last in the page.
+//! Bars that own their labels and numbers, and their figures: the sections make such bars, and page_figures
+//! draws them. In contracts, `bar_parts` is what definitions see of a bar, and `added` says what content is
+//! put last in the page.
 ghost use Rattle.std.specs.Prelude.{◌≡◌, IfOk, OnOk, map};
 ghost use Rattle.page_markup.specs.OpenPages.{added};
 ghost use Rattle.page_figures.specs.Drawings.{figure_parts, parts_of};
@@ -43,7 +44,7 @@ pub(crate) fn pair_bar(
     })
 }
 
-/// A bar for each size, with how many have it.
+/// A bar for each of these sizes, in order, with how many have it.
 pub(crate) fn size_bars(alloc: Global, counts: &[SizeCount]) -> Result<Vec<OwnBar>, OutOfMemory>
     ensures { IfOk result (λ bars. map bar_parts bars.items ≡ map size_bar counts.now) }
 {
@@ -79,7 +80,8 @@ pub(crate) fn push_own_bars(
     push_bars(alloc, page, figure, series, &bars)
 }
 
-/// Adds upright bars, and the table of their numbers. `series` are the names of the bars of a bin.
+/// Adds a histogram, and the table of its numbers: for each bin upright bars side by side. `series` are the
+/// names of the bars of a bin.
 pub(crate) fn push_own_histogram(
     alloc: Global,
     page: &mut PageWriter,
@@ -94,7 +96,7 @@ pub(crate) fn push_own_histogram(
     push_histogram(alloc, page, figure, series, &bins)
 }
 
-// The bars without memory of their own, as figures take them.
+// The same bars as figures take them: their labels and numbers are lent, and not copied.
 fn lent(alloc: Global, bars: &[OwnBar]) -> Result<Vec<Bar<'_>>, OutOfMemory>
     ensures { IfOk result (λ lent. map parts_of lent.items ≡ map bar_parts bars.now) }
 {

@@ -53,7 +53,8 @@ fn record_bars(alloc: Global, counts: &RecordCounts) -> Result<Vec<OwnBar>, OutO
     Ok(bars)
 }
 
-// Appends the bar of the cause `word`, where some record was left out by it.
+// Appends the bar of the cause `word`, by which `count` records were left out. Nothing is appended where
+// there are none.
 fn push_cause(
     alloc: Global,
     bars: &mut Vec<OwnBar>,

@@ -45,8 +45,8 @@ pub(crate) fn push_rules(
     page.close()
 }
 
-// A bar for each of the rules of these amounts, in this order. `counts` has the counts of each rule, in
-// declared order.
+// A bar for each of these amounts, in their order: an amount has the number of a rule and how many records
+// broke it. `counts` has the counts of each rule, in declared order.
 fn rule_bars(
     alloc: Global,
     survey: &Survey,

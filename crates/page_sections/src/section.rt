@@ -1,4 +1,4 @@
-//! How a section begins. In contracts, `added` says what content is put last in the page, and `opened`
+//! How each section of the page begins. In contracts, `added` says what content is put last in the page, and `opened`
 //! which element is open then.
 ghost use Rattle.std.specs.Prelude.{◌≡◌, [], OnOk};
 ghost use Rattle.page_markup.specs.OpenPages.{added, opened};
@@ -12,7 +12,7 @@ use page_markup::{Attribute, PageWriter, Tag, Value};
 
 const OF_NOTE: &[(Attribute, Value)] = &[(Attribute::Class, Value::Words(b"note"))];
 
-/// Opens a section, which the caller closes, and adds its heading and its note.
+/// Opens a section, which the caller closes when its figure is added. Its heading and its note are added.
 pub(crate) fn open_section(
     page: &mut PageWriter,
     heading: &[u8],

@@ -1,4 +1,5 @@
-//! The bytes of a field, as they were read and as they were released.
+//! The bytes of a field, as they were read and as they were released. Records, fields, rows and columns are
+//! numbered from 0.
 ghost use Rattle.std.specs.Prelude.{◌≡◌, ◌==◌, [], ℕ, position, slice_index_or};
 ghost use Rattle.page_sections.specs.GreatestSection.{released_text, text_in};
 
@@ -25,7 +26,7 @@ fn text_at(texts: &Texts, column: u32) -> &[u8]
     texts.get(column as usize)
 }
 
-// The column of a field, from 0. It is 0 where there is no such field.
+// The column in which a field stands, from 0. It is 0 where there is no such field.
 fn column(sheet: &Sheet, field: u32) -> u32
     ensures { result ≡ slice_index_or sheet.now.columns field 0 }
 {
@@ -52,7 +53,7 @@ pub(crate) fn released_text<'a>(
     }
 }
 
-// The place of a number among others, from 0. None where it is none of them.
+// The place of `number` among the numbers, from 0. None where it is none of them.
 fn place_of(numbers: &[u32], number: u32) -> Option<usize>
     ensures { result ≡ position (λ (n : ℕ). n == number) numbers.now }
 {

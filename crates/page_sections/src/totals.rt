@@ -27,7 +27,8 @@ pub(crate) fn push_totals(
     push_table(page, b"Totals", &[b"", b"before", b"after"], &rows)
 }
 
-// The rows of the table. `before` and `after` are the words of the sums.
+// The three rows of the table: the sum, the values that are none, and the numbers in no bin. `before` and
+// `after` are the words of the sums.
 fn total_rows<'a>(
     alloc: Global,
     numbers: &NumberValues,
@@ -46,7 +47,7 @@ fn total_rows<'a>(
     Ok(vec![in alloc; sum, none, beyond]?)
 }
 
-// A row of two counts, with this label.
+// A row of the table: a label, and the counts before and after.
 fn count_row<'a>(
     alloc: Global,
     label: &'a [u8],

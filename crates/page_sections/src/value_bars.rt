@@ -22,7 +22,7 @@ pub(crate) fn bin_bars(alloc: Global, numbers: &NumberValues) -> Result<Vec<OwnB
     }
 }
 
-// A bar for each bin, in order.
+// A bar for each of these bins, in order, with the counts before and after.
 fn bars_of(alloc: Global, bins: &Bins, numbers: &NumberValues) -> Result<Vec<OwnBar>, OutOfMemory>
     ensures { IfOk result (λ bars. map bar_parts bars.items ≡ bin_bars (Some bins.now) numbers.now) }
 {
@@ -33,7 +33,8 @@ fn bars_of(alloc: Global, bins: &Bins, numbers: &NumberValues) -> Result<Vec<Own
     Ok(bars)
 }
 
-// The bar of bin `i`, from 0: where it begins, and how many values it has before and after.
+// The bar of bin `i`, from 0: its label is where the bin begins, and its numbers are how many values it has
+// before and after.
 fn bin_bar(
     alloc: Global,
     bins: &Bins,
@@ -83,7 +84,7 @@ fn code_bar(
     pair_bar(alloc, names[i].as_bytes(), first, second)
 }
 
-// The count at place `i`, and 0 where there is none.
+// The count of the bin or code `i`, from 0, and 0 where there is no such count.
 fn count_at(counts: &[usize], i: usize) -> usize
     ensures { result ≡ slice_index counts.now i }
 {

@@ -44,7 +44,7 @@ pub(crate) fn push_values(
     page.close()
 }
 
-// Adds what is shown of each field, in declared order.
+// Adds the name of each field, and what is shown of it, in declared order.
 fn push_fields(
     alloc: Global,
     page: &mut PageWriter,
@@ -59,7 +59,7 @@ fn push_fields(
     Ok(())
 }
 
-// Adds the name of a field, and what is shown of it.
+// Adds the name of a field as a heading, and what is shown of it.
 fn push_field(
     alloc: Global,
     page: &mut PageWriter,
@@ -159,7 +159,8 @@ fn title_of(alloc: Global, name: &[u8]) -> Result<Vec<u8>, OutOfMemory>
     Ok(title)
 }
 
-// The number of a field's figure, from 10 on, since the other figures of the page have lower ones.
+// The number of a field's figure, by which a browser tells figures apart. It is from 10 on, since the other
+// figures of the page have lower ones.
 fn id_of(i: usize) -> u64
     ensures { result ≡ plus i 10 }
 {
