@@ -48,7 +48,7 @@ record_counts rows reasons =
       no_correction = left_out_count cause.NoCorrection reasons.left_out;
     }
 
--- how often a field was changed, and how
+-- how often a field was changed, by how its new value was found
 abbrev pub field_count : List Change → ℕ → FieldCount
 field_count changes f =
     record {
@@ -57,7 +57,7 @@ field_count changes f =
       default = change_count how.Default f changes;
     }
 
--- how often a field was changed
+-- how often a field was changed, in whichever way
 abbrev pub change_total : FieldCount → ℕ
 change_total count = count.donor + count.nearest + count.default
 
@@ -66,17 +66,18 @@ abbrev pub numbered : ℕ → List ℕ → List Amount
 numbered i [] = []
 numbered i (size ∷ sizes) = record { number = i; size = size } ∷ numbered (suc i) sizes
 
--- all of them, the greatest first
+-- the amounts are all the sizes with their numbers, the greatest first
 abbrev pub AreSorted : List ℕ → List Amount → Type 0
 AreSorted sizes amounts = AreGreatest (numbered 0 sizes) (length sizes) amounts
 
 -- ---- values before and after
 
--- how many values each bin has, and how many numbers are in none; where there are no bins, no number is in one
+-- how many values each bin has; no count where there are no bins
 abbrev pub counts_in : Option Bins → List Value → List ℕ
 counts_in (Some bins) values = bin_counts bins values
 counts_in None values = []
 
+-- how many numbers are in no bin: all of them where there are no bins
 abbrev pub beyond_in : Option Bins → List Value → ℕ
 beyond_in (Some bins) values = count_by (is_beyond bins) values
 beyond_in None values = count_by is_number values
@@ -108,7 +109,7 @@ column_before release f = column_of release.records.rows f (released_numbers rel
 abbrev pub column_after : ReleaseParts → ℕ → List Value
 column_after release f = column_of release.released.rows f (range_with_len 0 (length release.released.rows))
 
--- the same of the fields from number f on
+-- what is counted of the values of the fields from number f on
 abbrev pub AreValues : ReleaseParts → ℕ → List Field → List FieldValues → Type 0
 AreValues release f [] [] = Unit {0}
 AreValues release f (field ∷ fields) (values ∷ rest) =

@@ -13,6 +13,7 @@ pub record ReleaseParts : Type 0 where
   pub released : SheetParts
   pub reasons : Reasons
 
+-- what is seen of a release
 abbrev pub release_parts : Release → ReleaseParts
 release_parts release =
     record { survey = release.survey.now; records = release.records.now; released = release.released.now; reasons = release.reasons.now }

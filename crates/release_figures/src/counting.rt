@@ -22,11 +22,11 @@ use page_counts::{
 use reason_lines::{Change, Reasons};
 use std::alloc::Global;
 
-// How many of the records whose changes weigh most are told.
+// How many records are told at most, of those whose changes weigh most.
 const MOST_TOLD: usize = 20;
 
-/// All that the page of a release says. The changes of its reasons are to stand in the order of their
-/// records.
+/// All that the page of a release says, counted. The changes of its reasons are to stand in the order of their
+/// records, by which gifts are counted. The only fault is want of memory.
 pub fn figures_of(alloc: Global, release: &Release) -> Result<ReleaseFigures, OutOfMemory>
     requires { IsNonDecreasingBy (λ (c : AnyChange). c.record) release.now.reasons.now.changes }
     ensures { IfOk result (λ figures. AreFigures (release_parts release.now) figures) }

@@ -27,14 +27,15 @@ pub(crate) fn field_counts(
     Ok(counts)
 }
 
-// How often the field was changed.
+// How often the field was changed, by how its new value was found.
 fn count_of(changes: &[Change], field: u32) -> FieldCount
     ensures { result ≡ field_count changes.now field }
 {
     field_count(changes, field)
 }
 
-/// The fields with the numbers of their changes, that with the most first.
+/// The numbers of the fields, from 0, each with how often it was changed. That with the most changes comes
+/// first, and of equal ones the earlier. `counts` has those of each field, in declared order.
 pub(crate) fn fields_by_changes(
     alloc: Global,
     survey: &Survey,
@@ -50,7 +51,7 @@ pub(crate) fn fields_by_changes(
     sorted_sizes(alloc, &totals)
 }
 
-// How often a field was changed.
+// How often a field was changed, in whichever way.
 fn change_total(count: &FieldCount) -> u128
     ensures { result ≡ change_total count.now }
 {

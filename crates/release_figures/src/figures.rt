@@ -12,16 +12,16 @@ pub struct ReleaseFigures {
     pub released: Sequence<u32>,
     /// For each field, in declared order, how often it was changed.
     pub fields: Sequence<FieldCount>,
-    /// The fields with the number of their changes, that with the most first.
+    /// The numbers of the fields, from 0, with how often each was changed, that with the most changes first.
     pub fields_by_changes: Sequence<Amount>,
     /// For each rule, in declared order, how many records broke it as they came, and at how many it
     /// could not be tried.
     pub rules: Sequence<RuleCount>,
-    /// The rules with the number of records that broke them, that which most broke first.
+    /// The numbers of the rules, from 0, with how many records broke each, that which most broke first.
     pub rules_by_breaks: Sequence<Amount>,
     /// How many changed records have each weight, by rising weight.
     pub weights: Sequence<SizeCount>,
-    /// The twenty records whose changes weigh most, the heaviest first.
+    /// The records whose changes weigh most, at most twenty, the heaviest first.
     pub greatest: Sequence<Amount>,
     /// For each number of records that some donor gave to, by rising number, how many donors gave to so
     /// many.
@@ -61,6 +61,6 @@ pub struct NumberFigures {
     pub beyond: usize,
     /// How many values are none.
     pub none: usize,
-    /// The sum of the numbers, None where a number left the range.
+    /// The sum of the numbers, None where a number on the way to it left 128 bits.
     pub sum: Option<Fraction>,
 }

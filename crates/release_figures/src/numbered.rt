@@ -7,7 +7,7 @@ use foundation::OutOfMemory;
 use page_counts::{Amount, greatest_amounts};
 use std::alloc::Global;
 
-/// All the sizes with the numbers of their places, from 0: the greatest first, and of equal ones that of
+/// All the sizes, each with the number of its place, from 0: the greatest first, and of equal ones that of
 /// the earlier place.
 pub(crate) fn sorted_sizes(alloc: Global, sizes: &[u128]) -> Result<Vec<Amount>, OutOfMemory>
     requires { length sizes.now ≤ 2 ^ 32 }
@@ -17,7 +17,7 @@ pub(crate) fn sorted_sizes(alloc: Global, sizes: &[u128]) -> Result<Vec<Amount>,
     greatest_amounts(alloc, &amounts, sizes.len())
 }
 
-// The sizes with the numbers of their places, from 0.
+// The sizes in their order, each with the number of its place, from 0.
 fn numbered(alloc: Global, sizes: &[u128]) -> Result<Vec<Amount>, OutOfMemory>
     requires { length sizes.now ≤ 2 ^ 32 }
     ensures { IfOk result (λ amounts. amounts.items ≡ numbered 0 sizes.now) }

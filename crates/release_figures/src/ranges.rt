@@ -1,5 +1,6 @@
-//! From where to where a field's numbers reach, and the bins over them. In contracts, `AreBinsOf` says
-//! which bins these are, and `ends_of` has the two ends of a range, or None.
+//! From where to where a field's numbers reach, in thousandths, and the bins over them. The thousandths of a
+//! number can't be told where its numerator is above 10^33 in size. In contracts, `AreBinsOf` says which
+//! bins these are, and `ends_of` has the two ends of a range, or None.
 ghost use Rattle.std.specs.Prelude.{◌≡◌, ◌≤◌, ◌^◌, unsigned_abs};
 ghost use Rattle.std.specs.Int.{int_max, int_min};
 ghost use Rattle.std.specs.List.{list_all};
@@ -26,7 +27,8 @@ pub(crate) fn bins_of(before: &[Value], after: &[Value]) -> Option<Bins>
     Some(bins_over(range.least, range.greatest, unit_of(before, after)))
 }
 
-// The least width of bins over the numbers of both columns, in thousandths.
+// The least width that bins over the numbers of both columns may have, in thousandths: 1000 where all of
+// them are whole, so that bins begin at whole numbers, and else 1.
 fn unit_of(before: &[Value], after: &[Value]) -> i128
     ensures is { result ≡ unit_over before.now after.now }
     ensures small { unsigned_abs result ≤ 10 ^ 36 }
@@ -63,8 +65,8 @@ fn range_of(values: &[Value]) -> Option<Range>
     joined(point_of(least(values)), point_of(greatest(values)))
 }
 
-// From the number to itself, in thousandths. None where there is no number, or its thousandths can't be
-// told.
+// The range that has this number alone, in thousandths. None where there is no number, or its thousandths
+// can't be told.
 fn point_of(number: Option<Fraction>) -> Option<Range>
     ensures { ends_of result ≡ point_ends number }
 {
@@ -75,7 +77,8 @@ fn point_of(number: Option<Fraction>) -> Option<Range>
     })
 }
 
-// From the least to the greatest of two ranges, or the one that there is. None where there is neither.
+// One range over two, from the least to the greatest of both. It is the one that there is where the other is
+// None, and None where both are.
 fn joined(one: Option<Range>, other: Option<Range>) -> Option<Range>
     ensures { ends_of result ≡ joined_ends (ends_of one) (ends_of other) }
 {
@@ -86,7 +89,7 @@ fn joined(one: Option<Range>, other: Option<Range>) -> Option<Range>
     }
 }
 
-// From the least to the greatest of two ranges that there are.
+// One range over two, from the lesser of their least numbers to the greater of their greatest.
 fn range_over(one: Range, other: Range) -> Range
     ensures least { result.least ≡ int_min one.least other.least }
     ensures greatest { result.greatest ≡ int_max one.greatest other.greatest }

@@ -1,4 +1,4 @@
-//! What the page of a release is of.
+//! A release, as its page is made of it: the four files that were read.
 use edit_model::Survey;
 use reason_lines::Reasons;
 use record_text::Sheet;

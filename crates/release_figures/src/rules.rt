@@ -9,8 +9,8 @@ use foundation::OutOfMemory;
 use page_counts::{Amount, RuleCount};
 use std::alloc::Global;
 
-/// The rules with the numbers of records that broke them, that which most broke first. `counts` has the
-/// counts of each rule, in declared order.
+/// The numbers of the rules, from 0, each with how many records broke it. That which most broke comes first,
+/// and of equal ones the earlier. `counts` has the counts of each rule, in declared order.
 pub(crate) fn rules_by_breaks(
     alloc: Global,
     survey: &Survey,

@@ -17,8 +17,8 @@ use page_counts::{
 use std::alloc::Global;
 
 /// For each field, in declared order, its values in the records of these numbers, as they came and as
-/// they were released. `numbers` are those of the released records. Each column is made once, and
-/// dropped before the next.
+/// they were released. `numbers` are those of the released records, from 0: row k of the released file is the
+/// k-th of them. Each column is made once, and dropped before the next.
 pub(crate) fn field_values(
     alloc: Global,
     release: &Release,
@@ -50,7 +50,8 @@ fn all_rows(alloc: Global, rows: u32) -> Result<Vec<u32>, OutOfMemory>
     Ok(numbers)
 }
 
-// What is counted of a field's values before and after.
+// What is counted of a field's values before and after: bins and totals of a numerical field, or the codes
+// of a categorical one.
 fn values_of(
     alloc: Global,
     kind: &Kind,
@@ -92,7 +93,8 @@ fn number_values(
     })
 }
 
-// What is counted of a numerical field's values.
+// What is counted of a numerical field's values, before or after: how many each bin has, and the totals. The
+// sum is None where a number on the way to it leaves 128 bits.
 fn number_figures(
     alloc: Global,
     bins: Option<Bins>,

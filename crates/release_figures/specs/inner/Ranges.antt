@@ -28,14 +28,15 @@ pub record Ends : Type 0 where
   pub least : ℤ
   pub greatest : ℤ
 
+-- the ends of a range, where there is one
 abbrev pub ends_of : Option Range → Option Ends
 ends_of range = option_map (λ (r : Range). record { least = r.least; greatest = r.greatest }) range
 
--- from a number to itself
+-- the range of one number, where there is one and its thousandths can be told
 abbrev pub point_ends : Option Fraction → Option Ends
 point_ends number = option_map (λ t. record { least = t; greatest = t }) (option_and_then thousandths_of number)
 
--- from the least to the greatest of two ranges
+-- one range over two, or the one that there is
 abbrev pub joined_ends : Option Ends → Option Ends → Option Ends
 joined_ends (Some a) (Some b) = Some (record { least = int_min a.least b.least; greatest = int_max a.greatest b.greatest })
 joined_ends (Some a) None = Some a
