@@ -117,7 +117,7 @@ fn change_row<'a>(
     let after = released_text(release.released, numbers, change.field, amount.number);
     Ok(vec![in alloc;
         Cell::Number(u64::from(amount.number) + 1),
-        Cell::Number(shown(amount.size)),
+        Cell::Number(shown_size(amount.size)),
         Cell::Text(name),
         Cell::Text(before),
         Cell::Text(after),
@@ -125,7 +125,7 @@ fn change_row<'a>(
 }
 
 // A weight as a cell shows it: past 64 bits it is 2^64 - 1.
-fn shown(size: u128) -> u64
+fn shown_size(size: u128) -> u64
     ensures { result ≡ shown size }
 {
     match u64::try_from(size) {

@@ -76,7 +76,7 @@ pub(crate) fn push_own_bars(
     ensures { OnOk result (page.new ≡ added
         (bars_content (figure_parts figure.now) (map (λ s. s.now) series.now) (map bar_parts bars.now)) page.old) }
 {
-    let bars = lent(alloc, bars)?;
+    let bars = lend_bars(alloc, bars)?;
     push_bars(alloc, page, figure, series, &bars)
 }
 
@@ -92,12 +92,12 @@ pub(crate) fn push_own_histogram(
     ensures { OnOk result (page.new ≡ added
         (histogram_content (figure_parts figure.now) (map (λ s. s.now) series.now) (map bar_parts bins.now)) page.old) }
 {
-    let bins = lent(alloc, bins)?;
+    let bins = lend_bars(alloc, bins)?;
     push_histogram(alloc, page, figure, series, &bins)
 }
 
 // The same bars as figures take them: their labels and numbers are lent, and not copied.
-fn lent(alloc: Global, bars: &[OwnBar]) -> Result<Vec<Bar<'_>>, OutOfMemory>
+fn lend_bars(alloc: Global, bars: &[OwnBar]) -> Result<Vec<Bar<'_>>, OutOfMemory>
     ensures { IfOk result (λ lent. map parts_of lent.items ≡ map bar_parts bars.now) }
 {
     let mut lent = Vec::new(alloc);

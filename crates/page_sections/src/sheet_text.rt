@@ -13,7 +13,7 @@ pub(crate) fn text_in(sheet: &Sheet, field: u32, row: usize) -> &[u8]
     if row >= sheet.len() as usize {
         return b"";
     }
-    text_at(sheet.raw(row as u32), column(sheet, field))
+    text_at(sheet.raw(row as u32), column_of(sheet, field))
 }
 
 // The text of a column, from 0; no byte where there is no such column.
@@ -27,7 +27,7 @@ fn text_at(texts: &Texts, column: u32) -> &[u8]
 }
 
 // The column in which a field stands, from 0. It is 0 where there is no such field.
-fn column(sheet: &Sheet, field: u32) -> u32
+fn column_of(sheet: &Sheet, field: u32) -> u32
     ensures { result ≡ slice_index_or sheet.now.columns field 0 }
 {
     match sheet.columns().get(field as usize) {

@@ -70,11 +70,11 @@ fn push_field(
     ensures { OnOk result (page.new ≡ added (field_values fields.now i values.now) page.old) }
 {
     push_words(page, Tag::Heading3, &[], name_at(fields, i))?;
-    push_shown(alloc, page, fields, i, values)
+    push_shown_values(alloc, page, fields, i, values)
 }
 
 // Adds what is shown of a field: bins and totals of a numerical one, or the codes of a categorical one.
-fn push_shown(
+fn push_shown_values(
     alloc: Global,
     page: &mut PageWriter,
     fields: &[Field],

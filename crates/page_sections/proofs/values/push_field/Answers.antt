@@ -12,6 +12,6 @@ pub returns : goal.returns
 returns c =
     let heading = λ (words : List ℕ). Element Heading3 [] (Words words Nothing) Nothing in
     let first = c.in_ok-push_words.ensures ∙ ap (λ (w : List ℕ). added (heading w) c.args.page.now) c.name_at.ensures in
-    on_ok_weaker c.push_shown.result (both (heading (name_at c.args.fields.now c.args.i))
-    (shown_values c.args.fields.now c.args.i c.args.values.now) c.args.page.now c.push_words.new.page c.push_shown.new.page first)
-    c.push_shown.ensures
+    on_ok_weaker c.push_shown_values.result (both (heading (name_at c.args.fields.now c.args.i))
+    (shown_values c.args.fields.now c.args.i c.args.values.now) c.args.page.now c.push_words.new.page c.push_shown_values.new.page first)
+    c.push_shown_values.ensures

@@ -6,7 +6,7 @@ use Rattle.page_markup.specs.OpenPages.{added}
 use Rattle.page_sections.specs.Sections.{histogram_content, bar_parts}
 use Rattle.page_sections.specs.ValueSection.{code_bars, code_description, numbers_content, shown_values, value_figure, value_series}
 use Rattle.release_figures.specs.declared.figures.FieldValues.{FieldValues}
-use Rattle.page_sections.proofs.values.push_shown.Goals as goal
+use Rattle.page_sections.proofs.values.push_shown_values.Goals as goal
 
 pub returns-in-Numbers : goal.returns-in-Numbers
 returns-in-Numbers c =
