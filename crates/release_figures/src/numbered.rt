@@ -13,12 +13,12 @@ pub(crate) fn sorted_sizes(alloc: Global, sizes: &[u128]) -> Result<Vec<Amount>,
     requires { length sizes.now ≤ 2 ^ 32 }
     ensures { IfOk result (λ amounts. AreSorted sizes.now amounts.items) }
 {
-    let amounts = numbered(alloc, sizes)?;
+    let amounts = number_sizes(alloc, sizes)?;
     greatest_amounts(alloc, &amounts, sizes.len())
 }
 
 // The sizes in their order, each with the number of its place, from 0.
-fn numbered(alloc: Global, sizes: &[u128]) -> Result<Vec<Amount>, OutOfMemory>
+fn number_sizes(alloc: Global, sizes: &[u128]) -> Result<Vec<Amount>, OutOfMemory>
     requires { length sizes.now ≤ 2 ^ 32 }
     ensures { IfOk result (λ amounts. amounts.items ≡ numbered 0 sizes.now) }
 {

@@ -23,7 +23,7 @@ const UNIT: i128 = 1;
 pub(crate) fn bins_of(before: &[Value], after: &[Value]) -> Option<Bins>
     ensures { AreBinsOf before.now after.now result }
 {
-    let range = joined(range_of(before), range_of(after))?;
+    let range = join_ranges(range_of(before), range_of(after))?;
     Some(bins_over(range.least, range.greatest, unit_of(before, after)))
 }
 
@@ -62,7 +62,7 @@ fn is_whole(value: &Value) -> bool
 fn range_of(values: &[Value]) -> Option<Range>
     ensures { AreEndsOf (IsEnd values.now) (ends_of result) }
 {
-    joined(point_of(least(values)), point_of(greatest(values)))
+    join_ranges(point_of(least(values)), point_of(greatest(values)))
 }
 
 // The range that has this number alone, in thousandths. None where there is no number, or its thousandths
@@ -79,7 +79,7 @@ fn point_of(number: Option<Fraction>) -> Option<Range>
 
 // One range over two, from the least to the greatest of both. It is the one that there is where the other is
 // None, and None where both are.
-fn joined(one: Option<Range>, other: Option<Range>) -> Option<Range>
+fn join_ranges(one: Option<Range>, other: Option<Range>) -> Option<Range>
     ensures { ends_of result ≡ joined_ends (ends_of one) (ends_of other) }
 {
     match (one, other) {

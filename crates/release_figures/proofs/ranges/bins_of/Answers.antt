@@ -13,8 +13,8 @@ returns-in_err-range c =
     let after = c.args.after.now in
     record {
       ends = None;
-      are_ends = columns_are before after c.range_of.result c.range_of-2.result c.joined.result None c.range_of.ensures c.range_of-2.ensures
-          c.joined.ensures c.in_err-range.was;
+      are_ends = columns_are before after c.range_of.result c.range_of-2.result c.join_ranges.result None c.range_of.ensures c.range_of-2.ensures
+          c.join_ranges.ensures c.in_err-range.was;
       over = subst (AreBinsOver None (unit_over before after)) (sym c.from_residual.ensures) tt;
     }
 
@@ -27,8 +27,8 @@ returns c =
     let least_fits : FitsSigned w128 range.least = search rules in
     let greatest_fits : FitsSigned w128 range.greatest = search rules in
     let unit_fits : FitsSigned w128 c.unit_of.result = search rules in
-    let told = columns_are before after c.range_of.result c.range_of-2.result c.joined.result (Some range) c.range_of.ensures c.range_of-2.ensures
-    c.joined.ensures c.in_ok-range.was in
+    let told = columns_are before after c.range_of.result c.range_of-2.result c.join_ranges.result (Some range) c.range_of.ensures c.range_of-2.ensures
+    c.join_ranges.ensures c.in_ok-range.was in
     let bins = c.bins_over.result in
     let narrowest = simp to_z-of_z at c.bins_over.ensures.narrowest in
     let unit = subst (λ (u : ℤ). IsNarrowest (int_min range.least range.greatest) (int_max range.least range.greatest) u bins.width)

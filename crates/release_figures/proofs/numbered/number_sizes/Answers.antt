@@ -3,7 +3,7 @@ use Rattle.std.proofs.lemmas.List.{length-take-le, take_more}
 use Rattle.page_counts.specs.declared.amounts.Amount.{Amount}
 use Rattle.release_figures.specs.Figures.{numbered}
 use Rattle.release_figures.proofs.FigureLaws.{numbered_more}
-use Rattle.release_figures.proofs.numbered.numbered.Goals as goal
+use Rattle.release_figures.proofs.numbered.number_sizes.Goals as goal
 
 pub loop-place-preserved : goal.loop-place-preserved
 loop-place-preserved c =
