@@ -13,7 +13,8 @@ loop-change-init c =
     subst (λ (gs : List Gifts). AreAllGifts c.args.rows _ gs) (sym (c.in_ok-gifts.ensures.items_if_clones_equal (λ y same. same))) (gifts_begin c.args.rows)
 
 pub note_gift-requires : goal.note_gift-requires
-note_gift-requires c = gifts_few c.args.rows (take c.loop-change.change-index c.args.changes.now) c.loop-change.gifts.items (omega arith) c.loop-change.invariant
+note_gift-requires c =
+    gifts_few c.args.rows (take c.loop-change.change-index c.args.changes.now) c.loop-change.gifts.items (omega arith) c.loop-change.invariant
 
 pub loop-change-preserved : goal.loop-change-preserved
 loop-change-preserved c =
