@@ -16,7 +16,7 @@ use Rattle.reason_lines.specs.declared.reading.Reasons.{Reasons}
 abbrev pub reasons_header : List (List ℕ)
 reasons_header = codes "record" ∷ codes "cause" ∷ codes "field" ∷ codes "before" ∷ codes "after" ∷ codes "donor" ∷ codes "detail" ∷ []
 
--- the change, the record left out, that a line says
+-- the change that a line says, as a list of one; and so the record left out. The list is empty where the line says no such thing
 abbrev pub change_in : Result Entry LineFault → List Change
 change_in (Ok (entry.Changed change)) = change ∷ []
 change_in _ = []
@@ -25,23 +25,24 @@ abbrev pub left_out_in : Result Entry LineFault → List LeftOut
 left_out_in (Ok (entry.LeftOut left_out)) = left_out ∷ []
 left_out_in _ = []
 
--- the changes, the records left out, that lines say of so many records
+-- the changes that lines say of so many records, in order; and so the records left out
 abbrev pub changes_in : List Field → ℕ → List (List (List ℕ)) → List Change
 changes_in fields rows lines = flat_map (λ texts. change_in (entry_of fields rows texts)) lines
 
 abbrev pub left_outs_in : List Field → ℕ → List (List (List ℕ)) → List LeftOut
 left_outs_in fields rows lines = flat_map (λ texts. left_out_in (entry_of fields rows texts)) lines
 
--- what a line says, where nothing is wrong with it
+-- what a line says, where nothing is wrong with it by itself
 abbrev pub said : Result Entry LineFault → Option Entry
 said (Ok entry) = Some entry
 said (Err fault) = None
 
--- the first of what is wrong with the lines, from number i on, behind one that says that
+-- the first of what is wrong with lines: with the line of number i, or else with a later one
 abbrev pub first_fault : ℕ → Option LineFault → Option ReasonFault → Option ReasonFault
 first_fault i (Some fault) later = Some (Line i fault)
 first_fault i None later = later
 
+-- the same of lines from number i on, each behind the one before it
 abbrev pub lines_fault : List Field → ℕ → ℕ → Option Entry → List (List (List ℕ)) → Option ReasonFault
 lines_fault fields rows i before [] = None
 lines_fault fields rows i before (texts ∷ lines) =

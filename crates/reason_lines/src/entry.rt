@@ -11,12 +11,12 @@ pub enum How {
     Default,
 }
 
-/// A field of a record was changed.
+/// A field of a record was changed: one line of the file.
 #[derive(Clone, Copy, Debug, PartialEq, Eq)]
 pub struct Change {
     /// The record.
     pub record: u32,
-    /// The field, in declared order.
+    /// The number of the field, in declared order.
     pub field: u32,
     /// How its value was found.
     pub how: How,
@@ -39,7 +39,7 @@ pub enum Cause {
     NoCorrection,
 }
 
-/// A record was not released.
+/// A record was not released: one line of the file.
 #[derive(Clone, Copy, Debug, PartialEq, Eq)]
 pub struct LeftOut {
     /// The record.

@@ -1,4 +1,4 @@
-//! The header of a reasons file, and the comparison of texts by which lines are told.
+//! The header of a reasons file, and the comparison of texts by which it and the lines behind it are known.
 ghost use Rattle.std.specs.Prelude.{◌↔◌, ◌≡◌, ◌<◌, IsTrue, length};
 ghost use Rattle.std.specs.Str.{bytes_eq};
 ghost use Rattle.reason_lines.specs.ReasonFiles.{reasons_header};
@@ -6,7 +6,7 @@ ghost use Rattle.reason_lines.specs.ReasonLines.{text_in};
 
 use record_text::Texts;
 
-/// Whether these are the texts of a reasons file's header.
+/// Whether these are the texts of a reasons file's header: the names of its 7 columns, and no more.
 pub(crate) fn is_header(texts: &Texts) -> bool
     ensures { IsTrue result ↔ (texts.now ≡ reasons_header) }
 {

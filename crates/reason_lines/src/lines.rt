@@ -63,7 +63,7 @@ fn may_follow(survey: &Survey, first: Entry, second: Entry) -> bool
     }
 }
 
-// The number of the record of which a line speaks, from 0.
+// The number, from 0, of the record of which a line speaks.
 fn record_of(entry: Entry) -> u32
     ensures { result ≡ record_of entry }
 {

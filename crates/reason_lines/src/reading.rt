@@ -50,7 +50,7 @@ pub fn read_reasons(
     read_file(alloc, survey, rows, bytes)
 }
 
-// Reads the bytes as a table, compares its header, and reads its lines; the first of these that fails
+// Reads the bytes as a table, compares its header, and reads its lines. The first of these three that fails
 // tells the fault. `rows` is how many records the record file has.
 fn read_file(
     alloc: Global,
@@ -104,7 +104,7 @@ fn read_lines(
     })
 }
 
-// Puts what a line says at the end of its list: that of the changes, or that of the records left out.
+// Appends what a line says to its list: to that of the changes, or to that of the records left out.
 fn note(
     changes: &mut Vec<Change>,
     left_out: &mut Vec<LeftOut>,

@@ -9,7 +9,7 @@ use std::test::Fail;
 /// How many records the record file has.
 const ROWS: u32 = 12;
 
-// A field of this name and kind.
+// A field of this name and kind, of weight 1. A name that is none ends the test.
 fn field_of(name: &[u8], kind: Kind) -> Result<Field, Fail> {
     Ok(Field {
         name: Name::new(name).ok_or("no name")?,
@@ -118,7 +118,7 @@ const FAULTY: &[(&[u8], u32, LineFault)] = &[
     ),
 ];
 
-// The fault of a reasons file with these lines behind its header, if it has one.
+// The fault of a reasons file with these lines behind its header. None where the file is read.
 fn fault_of(alloc: Global, lines: &[u8]) -> Result<Option<ReasonFault>, Fail> {
     let survey = survey_of(alloc)?;
     let mut bytes = Vec::from_slice(alloc, b"record,cause,field,before,after,donor,detail\n")?;

@@ -22,8 +22,8 @@ pub(crate) fn record_named(rows: u32, text: &[u8]) -> Option<u32>
     Some(number - 1)
 }
 
-// The number that is printed so, and None where none is. The number that is read is printed again and
-// compared, since `parse` also takes a plus sign and zeros in front.
+// The number of 32 bits that is printed as this text, and None where none is. The number that is read is
+// printed again and compared, since `parse` also takes a plus sign and zeros in front.
 fn number_of(text: &[u8]) -> Option<u32>
     ensures some { IfSome result (λ n. text.now ≡ decimal n) }
     ensures none { IfNone result ((n : ℕ) → n < 2 ^ 32 → text.now ≢ decimal n) }
