@@ -1,5 +1,5 @@
-//! Copies of fields: the surveys of the two files have fields of their own, equal to those of the rule
-//! file.
+//! Copies of fields: the surveys of the two files have fields of their own, equal to those of the rule file.
+//! A last field has another name in its file.
 ghost use Rattle.std.specs.Prelude.{◌≡◌, ℕ, List, IfOk, drop};
 ghost use Rattle.panel_files.specs.LastFields.{IsLastField, IsLastName, under_last_name};
 

@@ -31,8 +31,8 @@ fn is_last(name: &Name) -> bool
     }
 }
 
-/// The bytes behind `last_` as a name. None where the name does not begin so, or nothing stands behind
-/// it. Whether a field may have this name is not asked here. No memory.
+/// The bytes behind `last_` as a name. None where the name does not begin with `last_`, or nothing stands
+/// behind it. Whether a field may have this name is not asked here. No memory.
 pub(crate) fn name_behind(name: &Name) -> Option<Name>
     ensures some { IfSome result (λ rest. name.now ≡ codes "last_" ++ rest) }
     ensures none { IfNone result ((rest : List ℕ) → ¬ IsLastName name.now rest) }

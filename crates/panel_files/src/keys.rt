@@ -54,8 +54,8 @@ impl KeyTable {
         }
     }
 
-    // Notes that the row has the key: the table is as before but for this key (`IsNoted`). A key that
-    // several rows have stands in the table without a row.
+    // Notes in the table that the row has the key; for all other keys it is as before (`IsNoted`). A key that
+    // another row has already stands in the table without a row from then on.
     fn note(&mut self, alloc: Global, key: &[u8], row_no: u32) -> Result<(), OutOfMemory>
         ensures { OnOk result (IsNoted self.old self.new key.now row_no) }
     {

@@ -74,8 +74,8 @@ pub fn both_columns(
     join(alloc, fields, set, columns, &pasts)
 }
 
-// Both lists as one: at each field of the set the next element of `last`, and at every other field the
-// next one of `own`.
+// Both lists as one, with an element for each field in declared order. At a field of the set that is the next
+// element of `last`, and at every other field the next one of `own`.
 fn join<T: Copy>(
     alloc: Global,
     fields: &[Field],
@@ -98,8 +98,8 @@ fn join<T: Copy>(
     Ok(both)
 }
 
-// The element for the field of this number, where `taken` elements of `last` were taken before it, and so
-// `number - taken` of `own`. `is_last` says whether the field is in the set.
+// The element for the field of this number, from 0. `is_last` says whether the field is in the set. `taken`
+// elements of `last` were taken for the fields before it, and so `number - taken` of `own`.
 fn element<T: Copy>(own: &[T], last: &[T], number: usize, taken: usize, is_last: bool) -> T
     requires fewer { taken ≤ number }
     requires in_last { IsTrue is_last → taken < length last.now }

@@ -38,7 +38,7 @@ pub fn last_survey(alloc: Global, survey: &Survey, set: FieldSet) -> Result<Surv
     Survey::of(alloc, fields, Vec::new(alloc))
 }
 
-// Puts a copy of the field at the end, where it is not a last field.
+// Appends a copy of the field where it is not a last field, and else nothing.
 fn push_own(
     alloc: Global,
     fields: &mut Vec<Field>,
@@ -53,7 +53,8 @@ fn push_own(
     Ok(())
 }
 
-// Puts a copy of the field, without `last_` in front of its name, at the end, where it is a last field.
+// Appends a copy of the field, without `last_` in front of its name, where it is a last field, and else
+// nothing.
 fn push_last(
     alloc: Global,
     fields: &mut Vec<Field>,

@@ -1,4 +1,5 @@
-//! Which fields are last fields, which row has a key, and rows that are joined. What is expected was worked out by hand.
+//! Which fields are last fields, which row has a key, and rows that are joined. What is expected was worked
+//! out by hand.
 ghost use Rattle.std.specs.Prelude.{IfOk, IfSome};
 ghost use Rattle.edit_model.specs.Rows.{IsRow};
 
@@ -78,7 +79,8 @@ fn a_key_has_a_row_where_one_row_has_it(rt: HostRuntime) -> Result<(), Fail> {
 /// The fields of a survey of which two are last fields.
 const FIELDS: &[&[u8]] = &[b"A", b"last_A", b"last_B", b"C"];
 
-/// A file of the records, one of the last period, and one in which both stand in one row.
+/// Three files each: one of the records, one of the last period, and one in which the first rows of both
+/// stand in one row.
 const FILES: &[(&[u8], &[u8], &[u8])] = &[
     (
         b"C,A\n5,50\n",
@@ -88,7 +90,7 @@ const FILES: &[(&[u8], &[u8], &[u8])] = &[
     (b"C,A\n5,50\n", b"B,A\n", b"A,last_A,last_B,C\n50,,,5\n"),
 ];
 
-// The first row of a file with these fields, where there is one.
+// The first row of a file that is read by the fields of this survey. None where the file has no row.
 fn first_of(alloc: Global, survey: &Survey, bytes: &[u8]) -> Result<Option<Row>, Fail>
     ensures { IfOk result (λ row. IfSome row (IsRow survey.now.fields)) }
 {
@@ -99,8 +101,8 @@ fn first_of(alloc: Global, survey: &Survey, bytes: &[u8]) -> Result<Option<Row>,
     Ok(Some(sheet.row(0).copy(alloc)?))
 }
 
-// The first row of the records `own`, and that of the rows `last` of the last period, if there is one, as
-// one record.
+// One record of two rows: the first of the file `own` of the records, and the first of the file `last` of the
+// last period, if that has one.
 fn first_of_both(alloc: Global, survey: &Survey, own: &[u8], last: &[u8]) -> Result<Row, Fail> {
     let set = last_set(survey);
     let own_survey = own_survey(alloc, survey, set)?;
@@ -124,8 +126,8 @@ fn rows_are_joined_field_by_field(rt: HostRuntime) -> Result<(), Fail> {
     Ok(())
 }
 
-// The columns of all fields, where those of the records stand in `columns`, and the last fields are given
-// the column 9.
+// The column of each field, where the fields of the records have those in `columns`, and the last fields are
+// given the column 9. Another number of columns than of fields ends the test.
 fn columns_of(alloc: Global, survey: &Survey, columns: &[u32]) -> Result<Vec<u32>, Fail> {
     let set = last_set(survey);
     let own = own_survey(alloc, survey, set)?;
