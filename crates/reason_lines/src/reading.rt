@@ -95,7 +95,7 @@ fn read_lines(
                 return Err(ReasonFault::Line { line, fault });
             }
         };
-        note(&mut changes, &mut left_out, entry)?;
+        push_entry(&mut changes, &mut left_out, entry)?;
         before = Some(entry);
     }
     Ok(Reasons {
@@ -105,7 +105,7 @@ fn read_lines(
 }
 
 // Appends what a line says to its list: to that of the changes, or to that of the records left out.
-fn note(
+fn push_entry(
     changes: &mut Vec<Change>,
     left_out: &mut Vec<LeftOut>,
     entry: Entry,
