@@ -39,7 +39,7 @@ impl KeyTable {
         };
         for row_no in 0..sheet.len() {
             let key = trimmed(sheet.raw(row_no).get(column as usize));
-            table.note(alloc, key, row_no)?;
+            table.note_key(alloc, key, row_no)?;
         }
         Ok(table)
     }
@@ -56,7 +56,7 @@ impl KeyTable {
 
     // Notes in the table that the row has the key; for all other keys it is as before (`IsNoted`). A key that
     // another row has already stands in the table without a row from then on.
-    fn note(&mut self, alloc: Global, key: &[u8], row_no: u32) -> Result<(), OutOfMemory>
+    fn note_key(&mut self, alloc: Global, key: &[u8], row_no: u32) -> Result<(), OutOfMemory>
         ensures { OnOk result (IsNoted self.old self.new key.now row_no) }
     {
         let row = self.row_after(key, row_no);

@@ -91,7 +91,7 @@ const FILES: &[(&[u8], &[u8], &[u8])] = &[
 ];
 
 // The first row of a file that is read by the fields of this survey. None where the file has no row.
-fn first_of(alloc: Global, survey: &Survey, bytes: &[u8]) -> Result<Option<Row>, Fail>
+fn first_row(alloc: Global, survey: &Survey, bytes: &[u8]) -> Result<Option<Row>, Fail>
     ensures { IfOk result (λ row. IfSome row (IsRow survey.now.fields)) }
 {
     let sheet = read_records(alloc, survey, bytes)?;
@@ -103,12 +103,12 @@ fn first_of(alloc: Global, survey: &Survey, bytes: &[u8]) -> Result<Option<Row>,
 
 // One record of two rows: the first of the file `own` of the records, and the first of the file `last` of the
 // last period, if that has one.
-fn first_of_both(alloc: Global, survey: &Survey, own: &[u8], last: &[u8]) -> Result<Row, Fail> {
+fn first_row_of_both(alloc: Global, survey: &Survey, own: &[u8], last: &[u8]) -> Result<Row, Fail> {
     let set = last_set(survey);
     let own_survey = own_survey(alloc, survey, set)?;
     let last_survey = last_survey(alloc, survey, set)?;
-    let last = first_of(alloc, &last_survey, last)?;
-    match first_of(alloc, &own_survey, own)? {
+    let last = first_row(alloc, &last_survey, last)?;
+    match first_row(alloc, &own_survey, own)? {
         Some(own) => Ok(both_values(alloc, survey, set, &own, last.as_ref())?),
         None => Err("no row".into()),
     }
@@ -119,8 +119,8 @@ fn first_of_both(alloc: Global, survey: &Survey, own: &[u8], last: &[u8]) -> Res
 fn rows_are_joined_field_by_field(rt: HostRuntime) -> Result<(), Fail> {
     let survey = survey_of(rt.alloc(), FIELDS)?;
     for (own, last, whole) in FILES {
-        let both = first_of_both(rt.alloc(), &survey, own, last)?;
-        let row = first_of(rt.alloc(), &survey, whole)?.ok_or("no row")?;
+        let both = first_row_of_both(rt.alloc(), &survey, own, last)?;
+        let row = first_row(rt.alloc(), &survey, whole)?.ok_or("no row")?;
         assert_eq!(rt; both.values(), row.values());
     }
     Ok(())

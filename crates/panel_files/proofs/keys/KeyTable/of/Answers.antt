@@ -9,10 +9,10 @@ loop-row_no-preserved c =
     let n = c.loop-row_no.row_no in
     let row_texts = c.args.sheet.now.row_texts in
     let below : n < length row_texts = omega (arith, c.loop-row_no-test.true, c.len-row_no-end.ensures.row_texts) in
-    table-more c.args.column row_texts n c.loop-row_no.table c.note.new.self below c.loop-row_no.invariant
-    (subst (λ (key : List ℕ). IsNoted c.loop-row_no.table c.note.new.self key n)
+    table-more c.args.column row_texts n c.loop-row_no.table c.note_key.new.self below c.loop-row_no.invariant
+    (subst (λ (key : List ℕ). IsNoted c.loop-row_no.table c.note_key.new.self key n)
     (c.trimmed-key.ensures ∙ ap trimmed (c.get.ensures ∙ ap (λ (texts : List (List ℕ)). slice_index_or texts c.args.column []) c.raw.ensures))
-    c.in_ok-note.ensures)
+    c.in_ok-note_key.ensures)
 
 pub returns : goal.returns
 returns c =

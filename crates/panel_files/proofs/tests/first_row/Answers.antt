@@ -1,7 +1,7 @@
 use Rattle.std.proofs.Common.{◌<◌, arith, length, sym, ◌∙◌}
 use Rattle.std.proofs.lemmas.Bool.Decides.{nat_tests}
 use Rattle.panel_files.proofs.FileLaws.{row-is}
-use Rattle.panel_files.proofs.tests.first_of.Goals as goal
+use Rattle.panel_files.proofs.tests.first_row.Goals as goal
 
 pub returns : goal.returns
 returns c =

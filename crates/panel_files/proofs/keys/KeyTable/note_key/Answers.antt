@@ -1,5 +1,5 @@
 use Rattle.panel_files.proofs.KeyLaws.{noted}
-use Rattle.panel_files.proofs.keys.KeyTable.note.Goals as goal
+use Rattle.panel_files.proofs.keys.KeyTable.note_key.Goals as goal
 
 pub returns : goal.returns
 returns c =
