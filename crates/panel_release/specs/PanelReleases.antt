@@ -63,7 +63,7 @@ abbrev pub released_to : PanelCase → List (List (List ℕ)) → List Linked �
 released_to panel row_texts answers =
     records_text (panel.files.own.header ∷ released_rows panel.survey.fields (columns_in panel) row_texts (ends_of answers))
 
--- the same of all records
+-- the released file, of all records
 abbrev pub panel_text : PanelCase → List Linked → List ℕ
 panel_text panel answers = released_to panel panel.files.own.row_texts answers
 
@@ -88,7 +88,7 @@ abbrev pub reasons_to : PanelCase → List (List (List ℕ)) → List Linked →
 reasons_to panel row_texts answers =
     records_text (reasons_header ∷ panel_lines_from panel.survey.fields (columns_in panel) 0 row_texts answers)
 
--- the same of all records
+-- the reasons file, of all records
 abbrev pub panel_reasons : PanelCase → List Linked → List ℕ
 panel_reasons panel answers = reasons_to panel panel.files.own.row_texts answers
 

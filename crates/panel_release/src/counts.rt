@@ -20,7 +20,7 @@ use foundation::OutOfMemory;
 use panel_link::Linked;
 use std::alloc::Global;
 
-/// How a record is counted.
+/// How a record is counted: as clean, changed or unresolved.
 #[derive(Clone, Copy)]
 pub(crate) enum Resolution {
     /// It was given values, and keeps all its own.
@@ -44,8 +44,8 @@ pub(crate) fn resolution_of(survey: &Survey, answer: &Linked) -> Resolution
     }
 }
 
-// How a record is counted that was given the values of this path: a path that changes no field leaves it
-// clean.
+// How a record is counted that was given the values of this path. A path that changes no field leaves it
+// clean, and any other one changes it, by the path's weight.
 fn path_resolution(survey: &Survey, path: &Path) -> Resolution
     requires { length path.now ≤ length survey.now.fields }
     ensures { IsPathResolution survey.now.fields path.now result }
@@ -59,7 +59,8 @@ fn path_resolution(survey: &Survey, path: &Path) -> Resolution
     }
 }
 
-// Whether the path keeps all its fields. A letter that is true is a changed field. No memory.
+// Whether the path keeps all its fields, so that the record is clean. A letter that is true is a changed
+// field. No memory.
 fn all_kept(path: &[bool]) -> bool
     ensures { result ≡ all_kept path.now }
 {
@@ -94,7 +95,7 @@ impl Counts {
         }
     }
 
-    /// Counts one record more that is resolved so. No memory.
+    /// Counts one record more, as `resolution` says. No memory.
     pub(crate) fn add(&mut self, resolution: Resolution)
         requires few { AreFew self.old }
         requires more { self.old.records < most_records }
@@ -113,7 +114,7 @@ impl Counts {
         }
     }
 
-    /// Whether no record is unresolved. No memory.
+    /// Whether no record is unresolved, by which the status of the run is chosen. No memory.
     pub(crate) fn none_unresolved(&self) -> bool
         ensures { (fields : List field.Field) (ends : List row_end.RowEnd) → AreCountsOf fields ends self.now
             → result ≡ not (list_any is_unresolved ends) }

@@ -1,4 +1,4 @@
-//! A panel that is to be corrected: what was read of its files, borrowed.
+//! A panel that is to be corrected: the survey and what was read of its two files, borrowed.
 use edit_model::{FieldSet, Survey};
 use record_text::Sheet;
 use std::marker::Model;

@@ -69,8 +69,8 @@ pub fn release_panel(alloc: Global, panel: &Panel, budget: u64) -> Result<PanelR
     told.end(alloc)
 }
 
-// Where the fields stand in the rows of the records. The last fields, which stand in the other file, have
-// a column behind all others.
+// In which columns the fields stand in the rows of the records. The last fields stand in the other file: they
+// have a column behind all others, which no row has.
 fn layout_of(alloc: Global, panel: &Panel) -> Result<Layout, OutOfMemory>
     requires { IsRead panel.now }
     ensures layout { IfOk result (IsLayout panel.now.survey.fields) }

@@ -1,6 +1,7 @@
-//! What is told of the records of a panel, one after the other. The released file, the reasons file, the
-//! proof and the counts grow with each. In contracts, `TellsOne` says what the three files have more with
-//! one answer, and `CountsOne` that the record is counted.
+//! What is told of the records of a panel, one after the other: the released file, the reasons file, the
+//! proof and the counts grow with each. An answer says what became of a record. In contracts, `TellsOne`
+//! says what the three files have more with one answer, and `CountsOne` that the record is counted.
+//! `IsEnd` says that values which a record was given are those of its path.
 ghost use Rattle.std.specs.Prelude.{◌≡◌, ◌<◌, ◌++◌, ℕ, List, IfOk, OnOk, codes, length, not};
 ghost use Rattle.std.specs.List.{list_any};
 ghost use Rattle.foundation.specs.Limits.{most_records};
@@ -25,8 +26,8 @@ use proof_text::row_text;
 use record_text::{RecordWriter, Sheet, Texts};
 use std::alloc::Global;
 
-/// What is told so far: the bytes of the released file, of the reasons file and of the proof, and what is
-/// counted.
+/// What is told of the records so far: the bytes of the released file, of the reasons file and of the proof,
+/// and what is counted.
 #[derive(Drop)]
 pub(crate) struct Told {
     released: RecordWriter,
@@ -60,9 +61,8 @@ impl Told {
         })
     }
 
-    /// Tells what becomes of one record more. `row_no` is its number, from 0, and `read` are its texts as
-    /// they were read. Where it was given values, these are those of its path (`IsEnd`). No part of the
-    /// answer is copied.
+    /// Tells what became of one record more, in the three files and in the counts. `row_no` is its number,
+    /// from 0, and `read` are its texts as they were read. No part of the answer is copied.
     pub(crate) fn tell(
         &mut self,
         alloc: Global,
@@ -159,8 +159,8 @@ impl Told {
         }
     }
 
-    // Writes what is told of a record as an edit tells of any that ended so. That is its released row, if
-    // it has one, its reasons, and its lines of the proof.
+    // Writes what is told of a record as an edit tells it: its released row, if it was given values, its
+    // reasons, and its lines of the proof. Nothing is counted.
     fn write_end(
         &mut self,
         alloc: Global,
@@ -183,7 +183,7 @@ impl Told {
     }
 
     // Writes that a record is not released, for this cause: a line of the reasons, and `text` in the
-    // proof. The released file has nothing of it.
+    // proof. The released file has nothing of it, and nothing is counted.
     fn write_cause(
         &mut self,
         alloc: Global,
@@ -237,8 +237,8 @@ fn stopped_end(proof: RowProof) -> RowEnd
     }
 }
 
-// What was found of a record for which there is no correction. The proof has of it what the proof of an
-// edit has of a record that no values correct.
+// What was found of a record for which there is no correction, as the lines of its row in the proof are made
+// of it. They are those that the proof of an edit has of a record that no values correct.
 fn proof_of_none(cert: Cert) -> RowProof
     ensures { result ≡ proof_of (linked.NoCorrection cert) }
 {

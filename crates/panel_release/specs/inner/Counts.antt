@@ -18,7 +18,7 @@ IsResolution fields end (resolution.Changed weight) =
     (keeps_all end ≡ false) × (is_changed end ≡ true) × (is_unresolved end ≡ false) × (weight ≡ weight_of fields end)
 IsResolution fields end resolution.Unresolved = (keeps_all end ≡ false) × (is_changed end ≡ false) × (is_unresolved end ≡ true)
 
--- the same of a record that was given the values of this path
+-- a record that was given the values of this path is counted in this way
 abbrev pub IsPathResolution : List Field → List Bool → Resolution → Type 0
 IsPathResolution fields path resolution.Clean = all_kept path ≡ true
 IsPathResolution fields path (resolution.Changed weight) = (all_kept path ≡ false) × (weight ≡ path_weight fields path)

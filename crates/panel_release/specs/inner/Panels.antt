@@ -25,6 +25,6 @@ both_at panel n =
     both_values panel.survey.fields panel.set panel.files (slice_index_or panel.files.own.row_texts n [])
     (slice_index_or panel.files.own.rows n [])
 
--- those of all records, in order
+-- the values of all records at all fields, in order
 abbrev pub rows_of : PanelCase → List (List Value)
 rows_of panel = both_rows panel.survey.fields panel.set panel.files

@@ -27,14 +27,14 @@ pub record TellsOne (fields : List Field) (columns : List ℕ) (number : ℕ) (t
   pub reasons : after.reasons ≡ before.reasons ++ records_text (panel_lines fields columns number texts answer)
   pub proof : after.proof.items ≡ before.proof.items ++ answer_text answer
 
--- it is told as any record is that ended so
+-- a record more is told as an edit tells any record that ended so
 pub record TellsEnd (fields : List Field) (columns : List ℕ) (number : ℕ) (texts : List (List ℕ)) (end : RowEnd)
     (before after : Told) : Type 0 where
   pub released : after.released ≡ before.released ++ records_text (released_of fields columns texts end)
   pub reasons : after.reasons ≡ before.reasons ++ records_text (reasons_of fields columns number texts end)
   pub proof : after.proof.items ≡ before.proof.items ++ row_text end.proof
 
--- it is not released for this cause, and the proof has this text of it
+-- a record more is told: it is not released for this cause, and the proof has this text of it
 pub record TellsCause (number : ℕ) (cause text : List ℕ) (before after : Told) : Type 0 where
   pub released : after.released ≡ before.released
   pub reasons : after.reasons ≡ before.reasons ++ records_text (cause_line number cause [] ∷ [])
