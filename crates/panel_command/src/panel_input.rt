@@ -101,8 +101,8 @@ pub(crate) fn fetch_panel<'a, D: Desk>(
     })
 }
 
-// The survey of the records' file, and that of the file of the last period. The latter has the fields of
-// `set`, and the former all others.
+// The surveys by which the two files are read: that of the records, and that of the last period. The latter
+// has the fields of `set`, which are the last fields, and the former all others.
 fn part_surveys(
     alloc: Global,
     survey: &Survey,

@@ -43,7 +43,8 @@ pub fn run_panel<D: Desk, P: Printer>(
     }
 }
 
-// How a run ends whose files are stored: `SomeUnresolved` where some record is not released, else `Done`.
+// How a run ends whose files are stored: `SomeUnresolved` where some record is not released, and else
+// `Done`.
 fn status_of(release: &PanelRelease) -> Status
     ensures { result ≡ (if release.now.whole then Status.Done else Status.SomeUnresolved) }
 {
@@ -78,8 +79,8 @@ fn correct<'a, D: Desk>(
     Ok(release)
 }
 
-// Stores the proof, the reasons, and then the released file, up to the first that fails. The released file
-// comes last: where it is stored, its proof and its reasons are.
+// Stores the proof, the reasons, and then the released file; the first that fails ends the call, and is the
+// refusal. The released file comes last, so that where it is stored, its proof and its reasons are, too.
 fn store_release<'a, D: Desk>(
     alloc: Global,
     asked: &PanelWords<'a>,

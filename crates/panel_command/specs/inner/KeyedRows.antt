@@ -13,7 +13,7 @@ abbrev pub RefusesOwnRows : List ℕ → List Field → List ℕ → Option File
 RefusesOwnRows name fields key files (fault.Records what) = RefusesRows files name fields key what
 RefusesOwnRows name fields key files f = RefusesLong most_bytes files f
 
--- and why a file of the last period is
+-- why a file of the last period is refused: it holds no rows of these fields with this key, or is too long
 abbrev pub RefusesLastRows : List ℕ → List Field → List ℕ → Option Files → Fault → Type 0
 RefusesLastRows name fields key files (fault.Last what) = RefusesRows files name fields key what
 RefusesLastRows name fields key files f = RefusesLong most_bytes files f
