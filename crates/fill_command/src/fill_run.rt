@@ -39,7 +39,8 @@ pub fn run_fill<D: Desk, P: Printer>(
     }
 }
 
-// How a run ends whose file is stored: `Done` where filling stopped on no record.
+// How a run ends whose file is stored: `Done` where filling stopped on no record, and else
+// `SomeUnresolved`.
 fn status_of(file: &FilledFile) -> Status
     ensures { result ≡ (if file.now.whole then Status.Done else Status.SomeUnresolved) }
 {

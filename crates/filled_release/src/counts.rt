@@ -53,7 +53,7 @@ impl Counts {
         }
     }
 
-    /// Whether no record is stopped. No memory.
+    /// Whether no record is stopped, by which the status of the run is chosen. No memory.
     pub(crate) fn none_stopped(&self) -> bool
         ensures { (answers : List answers.Filled) → AreCountsOf answers self.now → result ≡ not (list_any is_stopped answers) }
     {

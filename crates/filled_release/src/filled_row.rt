@@ -42,7 +42,7 @@ pub(crate) fn push_filled(
     writer.push(&texts)
 }
 
-// The set of the fields at which these values are forced. No memory.
+// The set of the fields at which values are forced: those are written anew. No memory.
 fn forced_set(forced: &[Forced]) -> FieldSet
     requires { All (λ e. e.field < 64) forced.now }
     ensures { (f : ℕ) → has_number result f ≡ is_forced forced.now f }
