@@ -29,7 +29,7 @@ page_fault_text (Released what) = codes "fault: released " ++ records_fault_text
 page_fault_text (ReasonsFile what) = codes "fault: reasons " ++ fault_text what
 page_fault_text (Rows given kept) = codes "fault: released rows " ++ (decimal given ++ (codes " of " ++ decimal kept))
 
--- how many calls are made up to it: the rules, the records and the released file are fetched, and then the reasons
+-- how many calls are made up to a fault: the rules, the records and the released file are fetched, and then the reasons
 abbrev pub calls_to : PageFault → ℕ
 calls_to (Released what) = 3
 calls_to (ReasonsFile what) = 4
@@ -74,12 +74,12 @@ IsFileDue files name IsNone status.TooLong = IsLonger files name most_bytes
 IsFileDue files name IsNone status.Rejected = HoldsText (Some files) name IsNone
 IsFileDue files name IsNone answer = ⊥
 
--- the released file is, behind rules and records that were read
+-- the released file is to be refused with this status, where the rules and the records were read
 abbrev pub IsReleasedDue : PageAsked → Files → Status → Type 0
 IsReleasedDue asked files answer = WithSheet (Some files) asked.rules asked.records (λ survey records.
     IsFileDue files asked.released (λ bytes. (sheet : SheetParts) → ¬ IsSheet survey.fields bytes sheet) answer)
 
--- the reasons are, behind a released file that was read
+-- the reasons are to be refused with this status, where the released file was read
 abbrev pub IsReasonsDue : PageAsked → Files → Status → Type 0
 IsReasonsDue asked files answer = WithReleased (Some files) asked (λ survey records released.
     IsFileDue files asked.reasons (λ bytes. (reasons : Reasons) → ¬ AreReasons survey.fields (length records.rows) bytes reasons) answer)

@@ -1,5 +1,5 @@
 //! Why the released file or the reasons do not fit the records, each fault with the line that is printed
-//! of it. The line is made with the fault, so that it is told without memory.
+//! of it. The line is made with the fault, so that no memory is needed when it is printed.
 ghost use Rattle.std.specs.Prelude.{◌≡◌, IfOk};
 ghost use Rattle.page_command.specs.PageFaults.{page_fault_text};
 ghost use Rattle.page_command.specs.declared.page_fault.PageFault.TheVariants as faults;
@@ -62,7 +62,7 @@ impl ToldFault {
         })
     }
 
-    /// The fault of reasons without a reading.
+    /// The fault of a reasons file without a reading. Its line begins with `fault: reasons `.
     pub(crate) fn of_reasons(alloc: Global, fault: ReasonFault) -> Result<ToldFault, OutOfMemory>
         ensures { IfOk result (λ told. told ≡ faults.Reasons fault) }
     {
@@ -73,7 +73,8 @@ impl ToldFault {
         })
     }
 
-    /// The fault of a released file of `given` rows, where `kept` records were not left out.
+    /// The fault of a released file of `given` rows, where the reasons leave `kept` records in. Its line has
+    /// both numbers.
     pub(crate) fn of_rows(
         alloc: Global,
         given: usize,
@@ -88,7 +89,7 @@ impl ToldFault {
         })
     }
 
-    /// The line that is printed of it, without its line feed. No memory.
+    /// The line that the program prints of this fault, without its line feed. No memory.
     pub(crate) fn line(&self) -> &[u8]
         ensures { result.now ≡ page_fault_text self.now }
     {

@@ -92,8 +92,8 @@ fn page_file<'a>(alloc: Global, sources: &Sources) -> Result<PageFile, PageRefus
     Ok(PageFile { page, line })
 }
 
-// Sees that the released file has as many rows as there are records that the reasons do not leave out.
-// Otherwise the refusal tells both numbers.
+// Checks that the released file has one row for each record that the reasons do not leave out. Where it has
+// not, the refusal tells both numbers; it is for want of memory where none is left for that.
 fn check_rows<'a>(
     alloc: Global,
     release: &Release,

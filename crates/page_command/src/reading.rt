@@ -21,7 +21,7 @@ use record_text::{Sheet, SheetFault, read_records};
 use run_parts::{Fault, MOST_BYTES, fetch_file};
 use std::alloc::Global;
 
-/// The sheet of the survey's records that the released file `name` reads as.
+/// Fetches the released file `name`, and reads it as a sheet of the survey's records.
 pub(crate) fn fetch_released<'a, D: Desk>(
     alloc: Global,
     name: &'a str,
@@ -41,8 +41,8 @@ pub(crate) fn fetch_released<'a, D: Desk>(
     }
 }
 
-/// The reasons for `rows` records of the survey that the reasons file `name` reads as. The changes stand
-/// in the order of their records (`rising`).
+/// Fetches the reasons file `name`, and reads it as the reasons for `rows` records of the survey. The changes
+/// stand in the order of their records (`rising`).
 pub(crate) fn fetch_reasons<'a, D: Desk>(
     alloc: Global,
     name: &'a str,

@@ -1,4 +1,5 @@
-//! Refusals of the command: those that it shares with others, and its own.
+//! Refusals of the command `page`: those that it shares with other commands, and its own. A run that is
+//! refused prints one line and ends with a status.
 ghost use Rattle.std.specs.Prelude.{◌≡◌};
 ghost use Rattle.page_command.specs.inner.PageParts.{out_of_memory, refusal_status, refusal_text};
 
@@ -23,7 +24,7 @@ impl<'a> PageRefusal<'a> {
         PageRefusal::Shared(Refusal::out_of_memory())
     }
 
-    /// The status with which the run ends. No memory.
+    /// The status with which a run of this refusal ends: `Rejected` where a file does not fit. No memory.
     pub(crate) fn status(&self) -> Status
         ensures { result ≡ refusal_status self.now }
     {
@@ -33,7 +34,7 @@ impl<'a> PageRefusal<'a> {
         }
     }
 
-    /// The line that is printed of it, without its line feed. No memory.
+    /// The line that the program prints of this refusal, without its line feed. No memory.
     pub(crate) fn line(&self) -> &[u8]
         ensures { result.now ≡ refusal_text self.now }
     {
@@ -50,7 +51,7 @@ impl<'a> From<Refusal<'a>> for PageRefusal<'a> {
 
     ghost from_gives = { λ shared refusal. refusal ≡ refusals.Shared shared };
 
-    // A fault that any command may meet is a refusal of this one, too.
+    // A refusal that any command may have is one of this command, too.
     fn from(shared: Refusal<'a>) -> Self {
         PageRefusal::Shared(shared)
     }
@@ -62,7 +63,7 @@ impl<'a> From<OutOfMemory> for PageRefusal<'a> {
 
     ghost from_gives = { λ memory refusal. refusal ≡ out_of_memory };
 
-    // A call below was refused memory: the command ends with this.
+    // A call below was refused memory: the command ends with the refusal for want of memory.
     fn from(_: OutOfMemory) -> Self {
         PageRefusal::out_of_memory()
     }

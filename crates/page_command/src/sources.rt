@@ -48,7 +48,7 @@ impl Model for Sources {
 }
 
 impl Sources {
-    /// The release that the page is about: the four parts, lent. No memory.
+    /// The release that the page is about: the survey, both sheets and the reasons, lent. No memory.
     pub(crate) fn release(&self) -> Release<'_>
         ensures is { release_parts result ≡ self.now }
         ensures rising { IsNonDecreasingBy (λ (c : AnyChange). c.record) result.reasons.now.changes }

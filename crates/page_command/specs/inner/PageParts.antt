@@ -27,22 +27,22 @@ use Rattle.page_command.specs.declared.refusal.PageRefusal.TheVariants.{Shared, 
 
 -- ---- a refusal
 
--- its status
+-- the status of a run that is refused so
 abbrev pub refusal_status : PageRefusal → Status
 refusal_status (Shared f) = fault_status f
 refusal_status (Unfit what) = status.Rejected
 
--- the line that is printed of it
+-- the line that is printed of a refusal
 abbrev pub refusal_text : PageRefusal → List ℕ
 refusal_text (Shared f) = fault_text f
 refusal_text (Unfit what) = page_fault_text what
 
--- a shared one is of the faults of files that are fetched and read
+-- a refusal that other commands share is for a fault of files that are fetched and read
 abbrev pub IsOfRead : PageRefusal → Type 0
 IsOfRead (Shared f) = IsOfInput f
 IsOfRead (Unfit what) = ⊤
 
--- or of those of a command that stores files as well
+-- a refusal that other commands share is for a fault of a command that fetches, reads and stores files
 abbrev pub IsOfPage : PageRefusal → Type 0
 IsOfPage (Shared f) = IsOfEdit f
 IsOfPage (Unfit what) = ⊤
@@ -52,12 +52,12 @@ abbrev pub Refuses : PageAsked → Option Files → PageRefusal → Type 0
 Refuses asked files (Shared f) = RefusesPage asked files f
 Refuses asked files (Unfit what) = IsUnfit asked files what
 
--- the calls up to it
+-- these are the calls of the command up to a refusal
 abbrev pub AreCallsBefore : PageAsked → PageRefusal → List Asked → Type 0
 AreCallsBefore asked (Shared f) calls = AreCallsTo (page_calls asked) f calls
 AreCallsBefore asked (Unfit what) calls = calls ≡ take (calls_to what) (page_calls asked)
 
--- the count of faults after it
+-- the count of the desk's faults after a refusal
 abbrev pub faults_past : PageRefusal → ℕ → ℕ
 faults_past (Shared f) faults = faults_by f faults
 faults_past (Unfit what) faults = faults
@@ -78,7 +78,7 @@ abbrev pub RefusesFile : List ℕ → Option Files → (PageFault → List ℕ �
 RefusesFile name files Says (Shared f) = IsOfFetch name f × RefusesLong most_bytes files f
 RefusesFile name files Says (Unfit what) = HoldsText files name (Says what)
 
--- the calls up to it: the one fetch
+-- these are the calls for one file up to its refusal: the one fetch
 abbrev pub AreFileCallsTo : List ℕ → PageRefusal → List Asked → Type 0
 AreFileCallsTo name (Shared f) calls = AreCallsTo (fetched name ∷ []) f calls
 AreFileCallsTo name (Unfit what) calls = calls ≡ fetched name ∷ []
