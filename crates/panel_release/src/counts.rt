@@ -50,7 +50,7 @@ fn path_resolution(survey: &Survey, path: &Path) -> Resolution
     requires { length path.now ≤ length survey.now.fields }
     ensures { IsPathResolution survey.now.fields path.now result }
 {
-    if all_kept(path.letters()) {
+    if keeps_all_fields(path.letters()) {
         Resolution::Clean
     } else {
         Resolution::Changed {
@@ -61,7 +61,7 @@ fn path_resolution(survey: &Survey, path: &Path) -> Resolution
 
 // Whether the path keeps all its fields, so that the record is clean. A letter that is true is a changed
 // field. No memory.
-fn all_kept(path: &[bool]) -> bool
+fn keeps_all_fields(path: &[bool]) -> bool
     ensures { result ≡ all_kept path.now }
 {
     path.iter().all(|changed| !*changed)

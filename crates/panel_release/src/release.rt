@@ -57,7 +57,7 @@ pub fn release_panel(alloc: Global, panel: &Panel, budget: u64) -> Result<PanelR
     let mut told = Told::start(alloc, panel.own, lines.len(), budget)?;
     for row_no in 0..panel.own.len() {
         let answer = answer_at(alloc, panel, &table, &lines, row_no, budget)?;
-        told.tell(
+        told.tell_record(
             alloc,
             panel.survey,
             &layout,

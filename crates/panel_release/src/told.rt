@@ -63,7 +63,7 @@ impl Told {
 
     /// Tells what became of one record more, in the three files and in the counts. `row_no` is its number,
     /// from 0, and `read` are its texts as they were read. No part of the answer is copied.
-    pub(crate) fn tell(
+    pub(crate) fn tell_record(
         &mut self,
         alloc: Global,
         survey: &Survey,
@@ -82,7 +82,7 @@ impl Told {
         ensures few { OnOk result (AreFew self.new.counts) }
     {
         let resolution = resolution_of(survey, &answer);
-        self.write(alloc, survey, layout, row_no, read, answer)?;
+        self.write_answer(alloc, survey, layout, row_no, read, answer)?;
         self.counts.add(resolution);
         Ok(())
     }
@@ -112,7 +112,7 @@ impl Told {
     // Writes what is told of one record more into the three files, and counts nothing. The answers
     // `NoLast` and `NoCorrection`, which an edit doesn't have, have a cause of their own. Every other
     // answer is written as in an edit.
-    fn write(
+    fn write_answer(
         &mut self,
         alloc: Global,
         survey: &Survey,

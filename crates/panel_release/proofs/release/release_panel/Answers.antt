@@ -36,8 +36,8 @@ loop-row_no-init c =
     told-none panel c.args.budget same many c.in_ok-told.told
     (subst (λ (n : ℕ). TellsNone panel.files.own n c.args.budget c.in_ok-told.told) lines none)
 
-pub tell-requires-clause-width : goal.tell-requires-clause-width
-tell-requires-clause-width c =
+pub tell_record-requires-clause-width : goal.tell_record-requires-clause-width
+tell_record-requires-clause-width c =
     let own = subst (λ (p : PanelCase). (bytes : List ℕ) × IsSheet (own_fields p.survey.fields p.set) bytes p.files.own) (sym c.panel.view_is) c.requires.own in
     let width = c.in_ok-layout.ensures.width ∙ ap (λ (p : PanelCase). length p.files.own.header) (sym c.panel.view_is) in
     ap (λ (t : List (List ℕ)). length t) c.raw.ensures
@@ -48,8 +48,8 @@ pub answer_at-requires-clause-lines : goal.answer_at-requires-clause-lines
 answer_at-requires-clause-lines c =
     rw c.deref.ensures.value (c.in_ok-lines.ensures.lines ∙ ap (λ (p : PanelCase). normal_lines_of p.survey) c.panel.view_is)
 
-pub tell-requires-clause-end : goal.tell-requires-clause-end
-tell-requires-clause-end c =
+pub tell_record-requires-clause-end : goal.tell_record-requires-clause-end
+tell_record-requires-clause-end c =
     subst (λ (p : PanelCase). IsEnd p.survey.fields (end_of c.in_ok-answer.answer)) (sym c.panel.view_is) c.in_ok-answer.ensures.end
 
 pub loop-row_no-preserved : goal.loop-row_no-preserved
@@ -58,7 +58,7 @@ loop-row_no-preserved c =
     let n = c.loop-row_no.row_no in
     let answer = c.in_ok-answer.answer in
     let before = c.loop-row_no.told in
-    let after = c.tell.new.self in
+    let after = c.tell_record.new.self in
     let same = as_many_row_texts_as_rows _ c.requires.own.0 _ c.requires.own.1 in
     let many = both-rows-length panel.survey.fields panel.set panel.files same in
     let below_inside : n < length c.panel.inside.own.now.rows = omega (
@@ -72,11 +72,12 @@ loop-row_no-preserved c =
     let is = subst (λ (values : List Value). IsAnswerAmong panel.survey panel.set c.args.budget values answer) row c.in_ok-answer.ensures.answer in
     let read = c.raw.ensures ∙ ap (λ (p : PanelCase). get_or p.files.own.row_texts n []) c.panel.view_is in
     let told = subst (λ (p : PanelCase). TellsOne p.survey.fields c.in_ok-layout.layout.columns n c.raw.result.now answer before after) c.panel.view_is
-    c.in_ok-tell.ensures.told in
+    c.in_ok-tell_record.ensures.told in
     let placed = subst (λ (cs : List ℕ). TellsOne panel.survey.fields cs n c.raw.result.now answer before after) c.in_ok-layout.ensures.columns told in
     let one = subst (λ (ts : List (List ℕ)). TellsOne panel.survey.fields (columns_in panel) n ts answer before after) read placed in
-    let counts = subst (λ (p : PanelCase). CountsOne p.survey.fields (end_of answer) before.counts after.counts) c.panel.view_is c.in_ok-tell.ensures.counts in
-    told-more panel c.args.budget same many n before after answer below c.loop-row_no.invariant is one counts c.in_ok-tell.ensures.few
+    let counts = subst (λ (p : PanelCase). CountsOne p.survey.fields (end_of answer) before.counts after.counts) c.panel.view_is
+    c.in_ok-tell_record.ensures.counts in
+    told-more panel c.args.budget same many n before after answer below c.loop-row_no.invariant is one counts c.in_ok-tell_record.ensures.few
 
 pub returns : goal.returns
 returns c =

@@ -5,7 +5,7 @@ use Rattle.panel_link.specs.declared.linked.Linked.{Linked}
 use Rattle.proof_text.specs.RowTexts.{row_text}
 use Rattle.panel_release.specs.inner.Tellings.{TellsOne}
 use Rattle.panel_release.proofs.TellingLaws.{no-correction-told}
-use Rattle.panel_release.proofs.told.Told.write.Goals as goal
+use Rattle.panel_release.proofs.told.Told.write_answer.Goals as goal
 
 pub returns-in_ok-text-in-NoCorrection-clause-told : goal.returns-in_ok-text-in-NoCorrection-clause-told
 returns-in_ok-text-in-NoCorrection-clause-told c =
