@@ -1,5 +1,5 @@
-//! The section on how often fields were changed. In contracts, `added` says what content is put last in
-//! the page's innermost open element.
+//! The section on how often fields were changed. In contracts, `added` says what content is put last in the
+//! page's innermost open element, and `bar_parts` is what definitions see of a bar.
 ghost use Rattle.std.specs.Prelude.{◌≡◌, IfOk, OnOk, map, slice_get};
 ghost use Rattle.edit_language.specs.Printing.{name_at};
 ghost use Rattle.page_markup.specs.OpenPages.{added};

@@ -1,7 +1,7 @@
 //! The section on the records whose changes weigh most, change by change. In contracts, `added` says
-//! what content is put last in the page, and `entry_of` is what definitions see of a cell. `numbers` are
-//! everywhere the numbers of the released records, from 0 and in order. An amount has the number of a
-//! record, from 0, and what its changes weigh.
+//! what content is put last in the page. `entry_of` is what definitions see of a cell, and `release_parts`
+//! of a release. `numbers` are everywhere the numbers of the released records, from 0 and in order. An
+//! amount has the number of a record, from 0, and what its changes weigh.
 ghost use Rattle.std.specs.Prelude.{◌≡◌, ◌++◌, IfOk, OnOk, map};
 ghost use Rattle.page_markup.specs.OpenPages.{added};
 ghost use Rattle.page_figures.specs.Tables.{entry_of};

@@ -1,6 +1,7 @@
 //! The page of a release, put together of its head and its sections. In contracts, `added` says what
-//! content is put last in the page's innermost open element. `AreFigures` says that the figures are
-//! counted from the files of the release, and `IsReleasePage` that the page says them.
+//! content is put last in the page's innermost open element, and `release_parts` is what definitions see of
+//! a release. `AreFigures` says that the figures are counted from the files of the release, and
+//! `IsReleasePage` that the page says them.
 ghost use Rattle.std.specs.Prelude.{◌≡◌, IfOk, OnOk};
 ghost use Rattle.page_markup.specs.OpenPages.{added};
 ghost use Rattle.page_markup.specs.Trees.{IsWellFormed};
@@ -38,7 +39,7 @@ pub fn release_page(
     page.finish()
 }
 
-// Adds the body: the header, and then the sections.
+// Adds the body of the page: the header, and then the sections in an element of their own.
 fn push_body(
     alloc: Global,
     page: &mut PageWriter,

@@ -1,5 +1,5 @@
 //! The section on what became of the records. In contracts, `added` says what content is put last in the
-//! page's innermost open element.
+//! page's innermost open element, and `bar_parts` is what definitions see of a bar.
 ghost use Rattle.std.specs.Prelude.{◌≡◌, ◌++◌, IfOk, OnOk, map};
 ghost use Rattle.page_markup.specs.OpenPages.{added};
 ghost use Rattle.page_sections.specs.RecordSection.{cause_bars, record_bars, record_section};

@@ -1,5 +1,5 @@
-//! The section on how many records broke each rule. In contracts, `added` says what content is put last
-//! in the page's innermost open element.
+//! The section on how many records broke each rule. In contracts, `added` says what content is put last in
+//! the page's innermost open element, and `bar_parts` is what definitions see of a bar.
 ghost use Rattle.std.specs.Prelude.{◌≡◌, ◌++◌, IfOk, OnOk, map, slice_get};
 ghost use Rattle.page_markup.specs.OpenPages.{added};
 ghost use Rattle.page_sections.specs.RuleSection.{break_parts, rule_bar, rule_label, rule_section, rule_words};

@@ -1,5 +1,6 @@
-//! The section on the values of the fields before and after. In contracts, `added` says what content is
-//! put last in the page's innermost open element. `i` is everywhere the number of a field, from 0.
+//! The section on the values of the fields before and after. In contracts, `added` says what content is put
+//! last in the page's innermost open element, and `bar_parts` is what definitions see of a bar. `i` is
+//! everywhere the number of a field, from 0.
 ghost use Rattle.std.specs.Prelude.{◌≡◌, ◌++◌, codes, IfOk, OnOk, map, slice_get};
 ghost use Rattle.edit_language.specs.Meaning.{field_codes, kind_codes};
 ghost use Rattle.page_markup.specs.OpenPages.{added};
