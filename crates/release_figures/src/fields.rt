@@ -1,4 +1,5 @@
-//! How often each field was changed, and the order of the fields by that.
+//! How often each field was changed, and the order of the fields by that. In contracts, `AreSorted` says that
+//! amounts are all these sizes with their numbers, the greatest first.
 ghost use Rattle.std.specs.Prelude.{◌≡◌, IfOk, length, map};
 ghost use Rattle.std.specs.List.{range_with_len};
 ghost use Rattle.release_figures.specs.Figures.{AreSorted, change_total, field_count};

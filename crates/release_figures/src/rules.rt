@@ -1,4 +1,5 @@
-//! The order of the rules by how many records broke them.
+//! The order of the rules by how many records broke them. In contracts, `AreSorted` says that amounts are all
+//! these sizes with their numbers, the greatest first.
 ghost use Rattle.std.specs.Prelude.{◌≡◌, IfOk, length, map};
 ghost use Rattle.page_counts.specs.declared.rules.RuleCount.{RuleCount as AnyCount};
 ghost use Rattle.release_figures.specs.Figures.{AreSorted};

@@ -1,4 +1,6 @@
-//! The values of each field in the released records, before and after.
+//! The values of each field in the released records, before and after: as these came, and as they were
+//! released. In contracts, `AreFieldValues` says what is counted of one field, and `AreValues` of all.
+//! `AreNumberFigures` says what is counted of one column of numbers, and `AreBinsOf` which bins there are.
 ghost use Rattle.std.specs.Prelude.{◌≡◌, IfOk};
 ghost use Rattle.std.specs.List.{range_with_len};
 ghost use Rattle.edit_model.specs.Surveys.{IsKind};
@@ -111,7 +113,8 @@ fn number_figures(
     })
 }
 
-// How many values each bin has, and how many numbers are in none; where there are no bins, no number is in one.
+// How many values each bin has, and how many numbers are in no bin. Where there are no bins, these are all
+// numbers.
 fn counts_in(alloc: Global, bins: Option<Bins>, values: &[Value]) -> Result<BinCounts, OutOfMemory>
     ensures counts { IfOk result (λ found. found.counts ≡ counts_in bins values.now) }
     ensures beyond { IfOk result (λ found. found.beyond ≡ beyond_in bins values.now) }
