@@ -1,6 +1,6 @@
 //! The sum, the least and the greatest of the numbers among some values; codes and missing values don't
 //! count. In contracts, `IsLeast` and `IsGreatest` say so of a number, and `HaveNoNumber` says that no
-//! value is one.
+//! value is one. `answered` is the fraction that a call answers, and None for an overflow.
 ghost use Rattle.std.specs.Prelude.{◌≡◌, ◌⊎◌, ◌∷◌, ◌++◌, [], List, MatchOption, pos};
 ghost use Rattle.fraction128.specs.Formulas.{answered, ratio_of};
 ghost use Rattle.edit_model.specs.declared.value.Value.{Value as AnyValue};
