@@ -1,7 +1,8 @@
 //! The values of two files as one row: those of a record, and those of the row of the last period that
 //! has its key. The same is done for columns. A `set` is always that of the survey's last fields. In
 //! contracts, `joined` is two lists as one. It has an element of the last ones for each field of the set,
-//! and one of the own ones for each other field.
+//! and one of the own ones for each other field; `flags_of` tells which fields are in the set. `own_fields`
+//! and `last_fields` are the fields that stand in the one file and in the other.
 ghost use Rattle.std.specs.Prelude.{◌≡◌, ◌<◌, ◌≤◌, ◌-◌, IfOk, IfSome, IsTrue, false, if◌then◌else◌, length, map, slice_index_or};
 ghost use Rattle.std.specs.Option.{option_map_or};
 ghost use Rattle.edit_model.specs.Rows.{IsRow};
