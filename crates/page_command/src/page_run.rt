@@ -28,8 +28,8 @@ use run_parts::{Status, refuse, store_file, tell};
 use std::alloc::Global;
 
 /// Writes the page about the edit that the words name, and prints how many records were clean, changed
-/// and left out. Where the run is refused, the reason is printed instead. The answer says how the run
-/// ended.
+/// and left out. Where the run is refused, the reason is printed instead. The answer is the status of the
+/// run: `Done`, or that of the refusal, or `WriteFault` where the line is not printed.
 pub fn run_page<D: Desk, P: Printer>(
     alloc: Global,
     asked: &PageWords,
@@ -55,9 +55,10 @@ struct PageFile {
     line: Vec<u8>,
 }
 
-// Does on the desk all that the command does there, up to the first fault. It fetches the four files,
-// makes the page of them, and stores that. Beside the page and the refusals, the contract says which
-// calls the desk was asked (`PutsOnRecord`), and which files it has then (`PageEnds`).
+// Does on the desk all that the command does there, up to the first fault. It fetches the four files, makes
+// the page of them, and stores it. The clauses say which refusals may come (`kind`), what each says of the
+// files (`cause`), and when one has to come (`due`). They also say what the desk has afterwards (`files`), and
+// what was asked of it (`asked`).
 fn write_page<'a, D: Desk>(
     alloc: Global,
     asked: &PageWords<'a>,

@@ -63,7 +63,8 @@ impl Sources {
 }
 
 /// Fetches and reads the rules, the records, the released file and the reasons, in this order. The first
-/// refusal ends the call, and no later file is fetched.
+/// refusal ends the call, and no later file is fetched. It comes where a file can't be fetched, is too long or
+/// has no reading, or for want of memory.
 pub(crate) fn fetch_sources<'a, D: Desk>(
     alloc: Global,
     asked: &PageWords<'a>,
