@@ -62,12 +62,12 @@ fn is_whole(value: &Value) -> bool
 fn range_of(values: &[Value]) -> Option<Range>
     ensures { AreEndsOf (IsEnd values.now) (ends_of result) }
 {
-    join_ranges(point_of(least(values)), point_of(greatest(values)))
+    join_ranges(single_range(least(values)), single_range(greatest(values)))
 }
 
 // The range that has this number alone, in thousandths. None where there is no number, or its thousandths
 // can't be told.
-fn point_of(number: Option<Fraction>) -> Option<Range>
+fn single_range(number: Option<Fraction>) -> Option<Range>
     ensures { ends_of result ≡ point_ends number }
 {
     let thousandths = thousandths_of(&number?)?;
