@@ -126,8 +126,8 @@ fn page_line(
     counts_line(alloc, release.records.len(), &figures.records, left_out)
 }
 
-// The line that counts `records` records, of which `left_out` were left out, without its line feed, such
-// as `page records 9 clean 5 changed 3 left out 1`.
+// The line that counts `records` records, of which `left_out` were left out, without its line feed. An
+// example is `page records 9 clean 5 changed 3 left out 1`.
 fn counts_line(
     alloc: Global,
     records: u32,

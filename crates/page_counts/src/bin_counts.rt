@@ -19,8 +19,8 @@ pub struct BinCounts {
     pub beyond: usize,
 }
 
-/// How many of the values each bin has, in the order of the bins, and how many of the numbers among them
-/// are in no bin. Codes and missing values are counted nowhere.
+/// How many of the values each bin has, in the order of the bins. Beside that, how many of the numbers among
+/// them are in no bin. Codes and missing values are counted nowhere.
 pub fn histogram(alloc: Global, values: &[Value], bins: &Bins) -> Result<BinCounts, OutOfMemory>
     ensures counts { IfOk result (λ found. found.counts ≡ bin_counts bins.now values.now) }
     ensures beyond { IfOk result (λ found. found.beyond ≡ count_by (is_beyond bins.now) values.now) }

@@ -4,7 +4,8 @@ ghost use Rattle.page_counts.specs.Fields.{change_count};
 
 use reason_lines::{Change, How};
 
-/// How many changes of a field took the donor's value, how many the nearest that the rules allow, and how many 0 or the first code.
+/// How many changes of a field took the donor's value (`donor`). How many took the nearest that the rules
+/// allow (`nearest`), and how many 0 or the first code (`default`).
 #[derive(Clone, Copy, Debug, PartialEq, Eq)]
 pub struct FieldCount {
     pub donor: usize,

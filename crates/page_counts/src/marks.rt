@@ -7,7 +7,7 @@ use foundation::OutOfMemory;
 use reason_lines::{Change, LeftOut};
 use std::alloc::Global;
 
-// For each of `rows` records whether it was changed.
+/// For each of `rows` records whether it was changed.
 pub(crate) fn changed_marks(
     alloc: Global,
     rows: u32,
@@ -21,7 +21,7 @@ pub(crate) fn changed_marks(
     Ok(marks)
 }
 
-// For each of `rows` records whether it was left out.
+/// For each of `rows` records whether it was left out.
 pub(crate) fn left_out_marks(
     alloc: Global,
     rows: u32,
@@ -35,7 +35,7 @@ pub(crate) fn left_out_marks(
     Ok(marks)
 }
 
-// For each of `rows` records whether it was changed or left out.
+/// For each of `rows` records whether it was changed or left out.
 pub(crate) fn unclean_marks(
     alloc: Global,
     rows: u32,

@@ -23,8 +23,8 @@ pub fn thousandths_of(number: &Fraction) -> Option<i128>
     Some(floor_quotient(thousand_times(number), number.denominator()))
 }
 
-// How many thousandths each value is, in order. None where it is no number, or its numerator is above 10^33
-// in size.
+/// How many thousandths each value is, in order. None where it is no number, or its numerator is above 10^33
+/// in size.
 pub(crate) fn thousandths(alloc: Global, values: &[Value]) -> Result<Vec<Option<i128>>, OutOfMemory>
     ensures { IfOk result (λ thousandths. thousandths.items ≡ map thousandths_at values.now) }
 {
@@ -35,7 +35,7 @@ pub(crate) fn thousandths(alloc: Global, values: &[Value]) -> Result<Vec<Option<
     Ok(thousandths)
 }
 
-// How many thousandths the value is; None where it is no number, or its numerator is above 10^33 in size.
+/// How many thousandths the value is; None where it is no number, or its numerator is above 10^33 in size.
 pub(crate) fn thousandths_at(value: &Value) -> Option<i128>
     ensures is { result ≡ thousandths_at value.now }
     ensures few { IfSome result (λ thousandths. unsigned_abs thousandths ≤ 10 ^ 36) }
@@ -55,7 +55,7 @@ fn thousand_times(number: &Fraction) -> i128
     1000 * number.numerator()
 }
 
-// The quotient of `size` and `unit`, rounded down: -1 and 3 give -1.
+/// The quotient of `size` and `unit`, rounded down: -1 and 3 give -1.
 pub(crate) fn floor_quotient(size: i128, unit: i128) -> i128
     requires few { unsigned_abs size ≤ 10 ^ 36 }
     requires some { pos 0 <ℤ unit }

@@ -9,8 +9,8 @@ use crate::thousandth::floor_quotient;
 // The step of the widest bins: they are 10^36 thousandths wide.
 const LAST_STEP: u32 = 108;
 
-// The least width that bins may have which is not below `unit`, and by which at most 20 bins reach from
-// `least` to `greatest`. The last one always serves, since the numbers are at most 10^36 in size.
+/// The least width that bins may have which is not below `unit`, and by which at most 20 bins reach from
+/// `least` to `greatest`. The last one always serves, since the numbers are at most 10^36 in size.
 pub(crate) fn width_over(least: i128, greatest: i128, unit: i128) -> i128
     requires least { unsigned_abs least ≤ 10 ^ 36 }
     requires greatest { unsigned_abs greatest ≤ 10 ^ 36 }
@@ -72,7 +72,7 @@ fn power_of_ten(exponent: u32) -> i128
     10i128.pow(exponent)
 }
 
-// How many bins of this width there are from that which has `least` to that which has `greatest`.
+/// How many bins of this width there are from that which has `least` to that which has `greatest`.
 pub(crate) fn bins_needed(least: i128, greatest: i128, width: i128) -> i128
     requires least { unsigned_abs least ≤ 10 ^ 36 }
     requires greatest { unsigned_abs greatest ≤ 10 ^ 36 }

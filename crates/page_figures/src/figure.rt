@@ -130,8 +130,8 @@ fn push_picture(
     push_shown_bars(alloc, page, form, figure, bars)
 }
 
-// Adds the drawing of the bars. Where there are more than `MOST`, a note is added first, and the bars from
-// the 64th on, counted from 1, are drawn as one bar of their sums.
+// Adds the drawing of the bars. Where there are more than `MOST`, a note is added first. Only the first 63
+// are drawn one by one then, and all others as one bar of their sums.
 fn push_shown_bars(
     alloc: Global,
     page: &mut PageWriter,
