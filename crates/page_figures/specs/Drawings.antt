@@ -1,4 +1,5 @@
--- What a picture shows: bars and bins, each with its numbers.
+-- What a picture shows: bars and bins, each with its numbers. Places and lengths are in units from the left and from above, and `rest` is
+-- what follows in the same element.
 use Rattle.std.specs.Prelude.{ℕ, zero, suc, ◌+◌, ◌-◌, ◌*◌, ◌/◌, ◌^◌, ◌==◌, max, min, nat_le, nat_lt, if◌then◌else◌, Bool, ◌&&◌}
 use Rattle.std.specs.Prelude.{List, [], ◌∷◌, ◌++◌, codes, get_or, length, map, take}
 use Rattle.std.specs.Fmt.{decimal}

@@ -1,4 +1,4 @@
--- What a table shows.
+-- What a table shows. `rest` is what follows in the same element.
 use Rattle.std.specs.Prelude.{ℕ, List, [], ◌∷◌, codes}
 use Rattle.std.specs.Fmt.{decimal}
 use Rattle.page_markup.specs.Trees.{Attributes, Content}

@@ -1,4 +1,4 @@
--- What the sections of a page share: a heading, a note, and figures of bars.
+-- What the sections of a page share: a heading, a note, and figures of bars. `rest` is what follows in the same element.
 use Rattle.std.specs.Prelude.{ℕ, List, [], ◌∷◌, codes}
 use Rattle.std.specs.Fmt.{decimal}
 use Rattle.page_markup.specs.Trees.{Content}

@@ -19,7 +19,7 @@ pub(crate) struct OwnBar {
     pub parts: Vec<u64>,
 }
 
-/// A bar of one number.
+/// A bar with this label and one number.
 pub(crate) fn count_bar(alloc: Global, label: &[u8], count: usize) -> Result<OwnBar, OutOfMemory>
     ensures { IfOk result (λ bar. bar_parts bar ≡ count_bar label.now count) }
 {
@@ -29,7 +29,7 @@ pub(crate) fn count_bar(alloc: Global, label: &[u8], count: usize) -> Result<Own
     })
 }
 
-/// A bar of two numbers, as a value before and after.
+/// A bar with this label and two numbers: a count before and after.
 pub(crate) fn pair_bar(
     alloc: Global,
     label: &[u8],
