@@ -1,6 +1,6 @@
 //! How often donors gave: to how many records each. A donor that gave to several fields of a record gave to
 //! one record. In contracts, `noted` is what is known of donors after one change more. `AreAllGifts` says
-//! that it is so of each record to how many it gave.
+//! that for each record the count of those that it gave to is right, and the last of these.
 ghost use Rattle.std.specs.Prelude.{◌≡◌, ◌∷◌, ◌++◌, ◌≤◌, ◌^◌, [], All, IfOk, OnOk, if◌then◌else◌, nat_lt};
 ghost use Rattle.std.specs.List.Sorted.{IsNonDecreasingBy};
 ghost use Rattle.reason_lines.specs.declared.entry.Change.{Change as AnyChange};
@@ -96,7 +96,7 @@ fn with_gift(gifts: Gifts, number: u32) -> Gifts
     }
 }
 
-// Whether this record is the last to which a donor gave.
+// Whether this record is the last to which a donor gave so far; false where it gave to none.
 fn is_last(gifts: Gifts, number: u32) -> bool
     ensures { result ≡ is_from number gifts.last }
 {

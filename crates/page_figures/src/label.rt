@@ -1,5 +1,6 @@
-//! Texts of a picture: numbers, and labels that may be too long for it. In contracts, `added` says what
-//! content is put last in the page's innermost open element.
+//! Texts of a picture: numbers, and labels that may be too long for it. `x` and `y` are places in units from
+//! the left and from above. In contracts, `added` says what content is put last in the page's innermost open
+//! element, and `opened` which element is open then.
 ghost use Rattle.std.specs.Prelude.{◌≡◌, ◌<◌, ◌≤◌, [], ◌∷◌, codes, length, OnOk, take};
 ghost use Rattle.std.specs.Fmt.{decimal};
 ghost use Rattle.page_markup.specs.OpenPages.{added, opened};
@@ -15,7 +16,7 @@ use page_markup::{Attribute, PageWriter, Tag, Value};
 // What stands for the rest of a label: U+2026.
 const ELLIPSIS: &[u8] = &[0xE2, 0x80, 0xA6];
 
-/// Adds a number that ends at `x`, on the line `y`.
+/// Adds a number in decimal digits, whose end is at `x`, on the line at `y`.
 #[tactic(auto, unfolding(crate::specs::Attributes::text_at))]
 pub(crate) fn push_number_at(
     page: &mut PageWriter,
