@@ -5,7 +5,7 @@ For each promise the page names calls, and for some of them which clauses carry 
 clauses through the definitions that they cite, over all crates, and writes the table of the files in which
 these stand: how many lines of each file are reached (definitions and the comments above them), of how many
 lines. A line 'Read apart' names definitions that are read with another promise, and are not followed. The last row says how many of the lines are definitions, without the comments. Files come in an
-order in which each stands behind those that its definitions cite.
+order in which each stands behind those that its definitions cite. Where the page says how many lines of definitions one definition reaches, that number is written too.
 
     docs/reading-order.py            writes the tables anew
     docs/reading-order.py --check    says whether they are true; the exit status is 1 where they are not
@@ -25,6 +25,7 @@ FIELD = re.compile(r'^  (?:pub )?\w+ :|(?<=[{;]) *\w+ =|^ +\w+ =(?= )|(?<=[\w)])
 CALLS = re.compile(r'^Calls: (.*)$', re.M)
 APART = re.compile(r'^Read apart: .*$', re.M)
 DEFINITION = re.compile(r'`(\w+)` of `([\w/.]+)`')
+REACHES = re.compile(r'(`(\w+)` of `([\w/.]+)`, .*? reaches )[\d,]+( lines)')
 CALL = re.compile(r'`([\w:]+)`(?: \(([`\w, ]+)\))? of `([\w/.]+)`')
 
 
@@ -203,6 +204,12 @@ def counted():
     return f'All definitions of `specs/` have {defined(False):,} lines without their comments, and those of `specs/inner/`, which private contracts alone cite, {defined(True):,}.'
 
 
+def reach_of(name, file):
+    """How many lines the definitions have that a definition reaches, without comments."""
+    edges = reached({(os.path.join(TOP, 'crates', *file.split('/')), name)})
+    return sum(not is_comment(line) for path, reach in edges for line in Page.at(path).definitions[reach])
+
+
 def written(text):
     """The page with its tables and its count."""
     parts = re.split(r'(?m)^(?=Calls: )', text)
@@ -213,7 +220,8 @@ def written(text):
             starts |= contract_starts(file, function, re.findall(r'\w+', clauses) or None)
         apart = {(os.path.join(TOP, 'crates', *file.split('/')), name) for name, file in DEFINITION.findall((APART.search(part) or [''])[0])}
         made.append(re.sub(r'(?ms)^\| File of.*?\n(?=\n|\Z)', lambda _: table(starts, apart) + '\n', part, count=1))
-    return re.sub(r'(?m)^All definitions of `specs/` have .*$', lambda _: counted(), ''.join(made))
+    page = REACHES.sub(lambda m: f'{m.group(1)}{reach_of(m.group(2), m.group(3)):,}{m.group(4)}', ''.join(made))
+    return re.sub(r'(?m)^All definitions of `specs/` have .*$', lambda _: counted(), page)
 
 
 def open_calls(text):
