@@ -7,12 +7,8 @@ use Rattle.command_words.proofs.AskedLaws.{make_of}
 use Rattle.make_command.proofs.MakeLaws.{all-made}
 use Rattle.run_parts.proofs.ToldLaws.{handed, less-told}
 use Rattle.run_parts.proofs.WordLaws.{told-same}
-<<<<<<<< HEAD:crates/make_command/proofs/make_run/make/Answers.antt
-use Rattle.make_command.proofs.make_run.make_survey.Goals as goal
-========
-use Rattle.edit_commands.proofs.make_run.make_survey.Goals as goal
->>>>>>>> b1ecde1d (Name in edit_commands what check, make and rules do before they print):crates/edit_commands/proofs/make_run/make_survey/Answers.antt
-
+<use Rattle.make_command.proofs.make_run.make_survey.Goals as goal
+=
 pub returns-in_default-clause-asked : goal.returns-in_default-clause-asked
 returns-in_default-clause-asked g c =
     let before = g.D.Desk.calls c.args.desk.now in

@@ -10,12 +10,8 @@ use Rattle.command_words.proofs.AskedLaws.{rules_of}
 use Rattle.run_parts.proofs.CallLaws.{less-calls}
 use Rattle.rules_command.proofs.RulesLaws.{read-rules-due}
 use Rattle.run_parts.proofs.ToldLaws.{each-told, where-told}
-<<<<<<<< HEAD:crates/rules_command/proofs/rules_run/rules/Answers.antt
-use Rattle.rules_command.proofs.rules_run.report_rules.Goals as goal
-========
-use Rattle.edit_commands.proofs.rules_run.report_rules.Goals as goal
->>>>>>>> b1ecde1d (Name in edit_commands what check, make and rules do before they print):crates/edit_commands/proofs/rules_run/report_rules/Answers.antt
-
+<use Rattle.rules_command.proofs.rules_run.report_rules.Goals as goal
+=
 pub returns-in_default-clause-asked : goal.returns-in_default-clause-asked
 returns-in_default-clause-asked g c =
     rw c.out_of_memory.ensures
