@@ -19,7 +19,8 @@ impl fmt::Display for CertFault {
 
     ghost output = { λ fault. Some (text_of fault) };
 
-    // Writes what is printed of the fault, without a line feed.
+    // Writes what is printed of the fault, without a line feed. Leaves and steps are told by their places,
+    // from 0.
     fn fmt<W: fmt::Write>(&self, f: &mut fmt::Formatter<W>) -> fmt::Result {
         match self {
             CertFault::Bad { leaf, step: None } => write!(
@@ -46,7 +47,7 @@ impl From<OutOfMemory> for CertFault {
 
     ghost from_gives = { λ _ fault. fault ≡ faults.OutOfMemory };
 
-    // Memory that is refused is one of the faults.
+    // The fault of a check in which memory was refused, so that `?` passes it on.
     fn from(_refused: OutOfMemory) -> Self {
         CertFault::OutOfMemory
     }

@@ -1,6 +1,7 @@
 //! Whether one leaf of a proof tree stands where it has to, and whether its reason holds. In contracts,
 //! `SaysOf` and `SaysOfPlace` say that the verdict is right. They also say that it names the first step
-//! that is not valid, if there is one. `IsTask` says that a task's parts fit.
+//! that is not valid, if there is one. `IsTask` says that a task's parts fit. A path has false for a kept
+//! field and true for a changed one; steps are numbered from 0.
 ghost use Rattle.std.specs.Prelude.{◌≡◌, ◌<◌, ◌≤◌, ◌==◌, IfOk, IsSomeAnd, None, Some, drop, if◌then◌else◌, length, option_map, true};
 ghost use Rattle.std.specs.Bool.{Decides};
 ghost use Rattle.edit_line.specs.Shapes.{shape_of};
@@ -45,23 +46,25 @@ pub(crate) fn verdict_at(
     leaf_verdict(alloc, task, &leaf.path, &leaf.why)
 }
 
-// Whether the path is right: it is the next behind the path before, and no longer than there are fields.
-// The last path ends the tree: it changes all its fields. `before` is None for the first leaf.
+// Whether a leaf of this path stands where it has to. It is the next behind the path `before`, which is None
+// for the first leaf, and no longer than there are fields. The `last` one ends the tree: it changes all its
+// fields.
 fn is_right(survey: &Survey, before: Option<&[bool]>, path: &[bool], last: bool) -> bool
     ensures { result ≡ stands_right (option_map (λ b. b.now) before.entry) path.now last (length survey.now.fields) }
 {
     may_stand(before, path) && (may_end(path, last) && path.len() <= survey.fields().len())
 }
 
-// Whether the path may stand where it does, as far as the tree's end asks. The `last` path of a tree
-// changes all its fields; any other may stand.
+// Whether the tree may end with this path, if it does: the `last` path of a full tree changes all its
+// fields. Of any other path nothing is asked, and the answer is true.
 fn may_end(path: &[bool], last: bool) -> bool
     ensures { result ≡ (if last then all_changed path.now else true) }
 {
     if last { all_changed(path) } else { true }
 }
 
-// What is found of a leaf whose path is right: whether its reason holds.
+// What is found of a leaf whose path is right: whether its reason holds. Where steps are its reason and one
+// is not valid, the first such step is named.
 fn leaf_verdict(
     alloc: Global,
     task: &Task,
@@ -121,8 +124,8 @@ fn line_verdict(
     }
 }
 
-// Whether the line is for all codes, and its linear part is false at the record's values at the kept
-// fields.
+// Whether the line is for all codes, and its linear part is false at the record's values at the kept fields.
+// Then no point meets it that has these values, so that it closes a path that keeps these fields.
 fn line_refutes(task: &Task, kept: FieldSet, line: &Line) -> bool
     requires task { IsTask task.now }
     requires kept { HasKept task.now.row.now kept }
@@ -169,7 +172,7 @@ fn step_at(steps: &[Step], place: u64) -> Option<u64>
     if steps.is_empty() { None } else { Some(place) }
 }
 
-// The verdict on a leaf of which no step is at fault.
+// The verdict on a leaf that is valid or not, where no step is to be named.
 fn verdict_of(valid: bool) -> Verdict
     ensures { result ≡ (if valid then Verdict.Valid else Verdict.Invalid None) }
 {

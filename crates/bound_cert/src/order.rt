@@ -8,14 +8,14 @@ ghost use Rattle.bound_cert.specs.Trees.{comes_next, may_stand};
 
 use crate::cert::Leaf;
 
-/// Whether the path keeps all its fields. No memory.
+/// Whether the path keeps all its fields, as the empty path does. No memory.
 pub(crate) fn all_kept(path: &[bool]) -> bool
     ensures { result ≡ all_kept path.now }
 {
     path.iter().all(|changed| !*changed)
 }
 
-/// Whether the path changes all its fields. No memory.
+/// Whether the path changes all its fields, as the empty path does. No memory.
 pub(crate) fn all_changed(path: &[bool]) -> bool
     ensures { result ≡ all_changed path.now }
 {
@@ -24,7 +24,7 @@ pub(crate) fn all_changed(path: &[bool]) -> bool
 
 /// Whether the second path comes right after the first in a full tree. They are alike up to a field that
 /// the first keeps and the second changes. Behind it the first changes all its fields, and the second keeps
-/// all its own. No memory.
+/// all its own. So it is false where one path is the beginning of the other. No memory.
 pub(crate) fn comes_next(first: &[bool], second: &[bool]) -> bool
     ensures { result ≡ comes_next first.now second.now }
 {
@@ -39,7 +39,8 @@ pub(crate) fn comes_next(first: &[bool], second: &[bool]) -> bool
     false
 }
 
-// Whether the first path changes all its fields, and the second keeps all its own.
+// Whether the first path changes all its fields, and the second keeps all its own. They are what is left of
+// two leaf paths behind the field where they part: there one tree ends, and the next begins.
 fn ends_and_begins(first: &[bool], second: &[bool]) -> bool
     ensures { result ≡ (all_changed first.now && all_kept second.now) }
 {

@@ -1,4 +1,4 @@
-//! Paths of the search, as values and as the letters of a proof file.
+//! Paths of the search, as values and as the letters of a proof file: K for a kept field, C for a changed one.
 ghost use Rattle.std.specs.Prelude.{◌≡◌, ◌≤◌, ◌++◌, OnOk, length, map};
 ghost use Rattle.std.specs.Io.{StartsWith};
 ghost use Rattle.edit_model.specs.Rows.{IsRow};
@@ -83,7 +83,8 @@ impl Path {
     }
 }
 
-// Appends the letters, one for each field of the path.
+// Appends the letters of a proof file, K or C, one for each field of the path. Where memory is refused, some
+// of them may stand there.
 fn write_letters(text: &mut Vec<u8>, letters: &[bool]) -> Result<(), OutOfMemory>
     ensures text { OnOk result (text.new.items ≡ text.old.items ++ map letter letters.now) }
     ensures begins { StartsWith text.new.items text.old.items }
@@ -94,7 +95,7 @@ fn write_letters(text: &mut Vec<u8>, letters: &[bool]) -> Result<(), OutOfMemory
     Ok(())
 }
 
-// The letter of a field: C where it is changed, K where it is kept.
+// The byte of a field's letter in a proof file: C where it is changed, K where it is kept.
 fn letter(changed: bool) -> u8
     ensures { result ≡ letter changed }
 {

@@ -1,5 +1,5 @@
-//! What a path says of a survey's fields and of a record. Places of a path are those of path order,
-//! numerical fields before categorical ones.
+//! What a path says of a survey's fields and of a record. A path has false for a kept field and true for a
+//! changed one, in path order: numerical fields before categorical ones. Places in it count from 0.
 ghost use Rattle.std.specs.Prelude.{◌≡◌, ◌<◌, ◌≤◌, ◌&&◌, if◌then◌else◌, length, not};
 ghost use Rattle.edit_model.specs.Rows.{IsRow, is_bad, value_of};
 ghost use Rattle.edit_model.specs.Words.{weight_at};
@@ -51,7 +51,8 @@ pub(crate) fn kept_set(survey: &Survey, row: &Row, path: &[bool]) -> FieldSet
     set
 }
 
-// The weight of the field at this place of the path order, 0 where it is kept.
+// What the letter `changed` at this place of the path order adds to a path's weight: the field's weight, or
+// 0 where it is kept.
 fn changed_weight(survey: &Survey, place: usize, changed: bool) -> u64
     requires { place < length survey.now.fields }
     ensures weight { result ≡ (if changed then weight_at survey.now.fields (field_at survey.now.fields place) else 0) }
@@ -64,7 +65,7 @@ fn changed_weight(survey: &Survey, place: usize, changed: bool) -> u64
     u64::from(fields[survey.path_field(place as u32) as usize].weight)
 }
 
-// Whether the field at this place of the path order is kept, and has no value.
+// Whether the field at this place of the path order is kept, and has no value in the record.
 fn keeps_bad_at(survey: &Survey, row: &Row, place: usize, changed: bool) -> bool
     requires short { place < length survey.now.fields }
     requires row { IsRow survey.now.fields row.now }
@@ -73,7 +74,7 @@ fn keeps_bad_at(survey: &Survey, row: &Row, place: usize, changed: bool) -> bool
     !changed && is_bad_at(survey, row, place)
 }
 
-// Whether the field at this place of the path order is kept, and has a value.
+// Whether the field at this place of the path order is kept, and has a value in the record.
 fn keeps_value_at(survey: &Survey, row: &Row, place: usize, changed: bool) -> bool
     requires short { place < length survey.now.fields }
     requires row { IsRow survey.now.fields row.now }
@@ -82,7 +83,8 @@ fn keeps_value_at(survey: &Survey, row: &Row, place: usize, changed: bool) -> bo
     !changed && !is_bad_at(survey, row, place)
 }
 
-// The set with the field at this place of the path order, if that is kept and has a value.
+// The set with the field at this place of the path order, if that is kept and has a value in the record;
+// else the set as it is.
 fn with_kept(set: FieldSet, survey: &Survey, row: &Row, place: usize, changed: bool) -> FieldSet
     requires short { place < length survey.now.fields }
     requires row { IsRow survey.now.fields row.now }

@@ -2,9 +2,9 @@
 //! call that does nothing.
 ghost use Rattle.bound_cert.specs.SharedTrees.{GrowingLaw, SharingLaw};
 
-/// Two laws of lines that are written once, in a table; nothing is computed, and no code calls it. A valid
-/// tree stays valid where its leaves name such lines instead of deriving them. It also does where the
-/// table grows.
+/// Two laws of proof files of version 2, whose table has each derived line once. A valid tree stays valid
+/// where its leaves name lines of the table instead of deriving them. It also stays valid where the table
+/// grows. Nothing is computed, and no code calls this: it states what is proved.
 pub fn sharing_laws()
     ensures shared { SharingLaw }
     ensures grown { GrowingLaw }
