@@ -1,16 +1,16 @@
 //! Laws of paths and of outcomes, as calls that compute nothing: what the definitions of this crate tell of
-//! a record and its corrections.
+//! a record and its corrections. No program calls them: their contracts state what is proved.
 ghost use Rattle.std.specs.Prelude.{ℕ};
 ghost use Rattle.edit_paths.specs.Answers.{Certifies, ChoosesFirst, FindsChange, IsBudgetEnough, NoneMeets, ShowsContradiction};
 ghost use Rattle.edit_paths.specs.Cases.{SearchCase, IsCase};
 ghost use Rattle.edit_paths.specs.Laws.{ClosedPathLaw, LeastLaw, OpenPathLaw, OrderLaw, ReachedLaw, StepOverflowLaw, TestOverflowLaw, WalkLaw};
 ghost use Rattle.edit_paths.specs.Outcomes.{outcome_of};
 
-/// Laws of paths, for the proofs of callers; nothing is computed. At a closed path no point that meets the
-/// edits keeps what it keeps. A path that says something of all fields, in range, is open exactly where
-/// some such point differs only where it changes. A path is reached exactly where all that it extends are
-/// open. The reached paths are in order, by weight and then letter by letter; a best-first walk takes them
-/// so. An overflow names two lines whose combination leaves the range, or a line whose sum does.
+/// Laws of paths; nothing is computed. Where a path is closed, no point that meets the edits has the record's
+/// values at the fields that it keeps. A path that says something of all fields, in range, is open exactly
+/// where some such point differs from the record only at the fields that it changes. A path is reached
+/// exactly where all that it extends are open. A best-first walk takes the reached paths by weight, and then
+/// letter by letter. An overflow names two lines whose combination leaves the range, or a line whose sum does.
 pub fn path_laws()
     ensures closed_path { ClosedPathLaw }
     ensures open_path { OpenPathLaw }
@@ -21,9 +21,9 @@ pub fn path_laws()
     ensures test_overflow { TestOverflowLaw }
 {}
 
-/// Laws of outcomes, for the proofs of callers; nothing is computed. A change is the lightest at which the
-/// edits hold, and of equal ones the first letter by letter. Where they hold just at the corrections, it
-/// is a least change (Fellegi and Holt 1976). At no point do the edits of a contradictory record hold.
+/// Laws of outcomes; nothing is computed. A change is the lightest at which the edits hold, and of equal ones
+/// the first letter by letter. Where they hold just at the corrections, it is a least change (Fellegi and
+/// Holt 1976). At no point do the edits of a contradictory record hold.
 /// With a budget of the total work, a change is found where there is one and no number leaves the range.
 /// The certificates are valid trees.
 pub fn outcome_laws()

@@ -1,6 +1,6 @@
 //! Lists of lines or boxes, each derived from the one before it, and how their elements were made. From
-//! them the steps of a certificate are written. In contracts, `makings_of` says how the elements of a list
-//! were made.
+//! them the steps of a certificate are written. A place is that of an element in its list, from 0. In
+//! contracts, `makings_of` says how the elements of a list were made.
 ghost use Rattle.std.specs.Prelude.{◌≡◌, IfOk};
 ghost use Rattle.edit_paths.specs.Histories.{box_by, line_by, making_at};
 ghost use Rattle.edit_paths.specs.Levels.{makings_of};
@@ -20,8 +20,8 @@ use std::sync::Arc;
 pub enum Level {
     /// The lines of a system.
     Lines(Arc<Held>),
-    /// The boxes after this field was treated, or, with field 0, those of the lines that fail. The field is
-    /// read only of boxes that a step at it made, and failing lines made none of these.
+    /// The boxes after this categorical field was eliminated or fixed. The first boxes come from lines that
+    /// fail, and from no field; they stand with field 0, which is then not read.
     Boxes {
         field: u32,
         boxes: Arc<Sequence<BoxFrom>>,
@@ -45,8 +45,9 @@ pub(crate) fn making_at(alloc: Global, level: &Level, place: u64) -> Result<Maki
     }
 }
 
-/// The place, in the list before, of the element at this place of the list. None where a step made the
-/// element. Past the end of the list the answer is place 0, as by [`making_at`]. No memory.
+/// The place, in the list before, from which the element at this place was taken over as it was. None where
+/// a step made it. Past the end of the list the answer is place 0, as by [`making_at`]. No memory, since no
+/// step is copied.
 pub(crate) fn earlier_at(level: &Level, place: u64) -> Option<u64>
     ensures { result ≡ earlier_of (making_at (makings_of level.now) place) }
 {
@@ -62,7 +63,8 @@ pub(crate) fn earlier_at(level: &Level, place: u64) -> Option<u64>
     }
 }
 
-/// How a line with this origin was made: an edit is a given line, and a pair is a combination. No memory.
+/// How a line with this origin was made: an edit is a given line, and a pair is a combination. Any other was
+/// taken over from the list before. No memory.
 pub fn line_by(origin: Origin) -> Making
     ensures { result ≡ line_by origin }
 {
@@ -73,8 +75,8 @@ pub fn line_by(origin: Origin) -> Making
     }
 }
 
-/// How a box with this origin was made, where `field` was treated last. The field is named by the steps
-/// that cover it or fix it.
+/// How a box with this origin was made, in the list of boxes that `field` was eliminated from or fixed in.
+/// The steps that cover or fix a field name it. Memory may be refused for the parts of a cover.
 pub fn box_by(alloc: Global, field: u32, origin: &BoxOrigin) -> Result<Making, OutOfMemory>
     ensures { IfOk result (λ making. making ≡ box_by field origin.now) }
 {
@@ -92,7 +94,8 @@ pub fn box_by(alloc: Global, field: u32, origin: &BoxOrigin) -> Result<Making, O
     }
 }
 
-// The place in the list before of a line with this origin; None where it is an edit or a combination.
+// The place in the list before from which a line with this origin was taken over. None where it is an edit
+// or a combination.
 fn earlier_line(origin: Origin) -> Option<u64>
     ensures { result ≡ earlier_of (line_by origin) }
 {
@@ -102,8 +105,8 @@ fn earlier_line(origin: Origin) -> Option<u64>
     }
 }
 
-// The place in the list before of a box with this origin; None where a step made it. The field does not
-// decide; it stands here as in [`box_by`].
+// The place in the list before from which a box with this origin was taken over. None where a step made it.
+// `field` decides nothing: it is there for the contract, whose definition `box_by` asks for it.
 fn earlier_box(field: u32, origin: &BoxOrigin) -> Option<u64>
     ensures { result ≡ earlier_of (box_by field origin.now) }
 {

@@ -47,8 +47,8 @@ impl StepList {
         self.numbers.contains_key(&element)
     }
 
-    /// The number of the element's step, from 0. Where it has none, this is the count of the steps. No
-    /// memory.
+    /// The number of the element's step, from 0, by which later steps name it. Where it has none, this is the
+    /// count of the steps. No memory.
     pub(crate) fn number_of(&self, element: (u64, u64)) -> u64
         ensures { result ≡ step_number self.now element }
     {

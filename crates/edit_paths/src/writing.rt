@@ -64,7 +64,8 @@ fn prove(
 }
 
 // The element at this place of the last list, where it was made: how many lists stand before its own, and
-// its place there. An element that was taken over as it was is looked for in the list before.
+// its place there. An element that was taken over as it was is looked for in the list before. Without lists
+// the answer is `(0, place)`.
 fn maker(levels: &[Level], place: u64) -> (u64, u64)
     ensures { result ≡ maker (history_of levels.now) place }
 {
@@ -77,7 +78,7 @@ fn maker(levels: &[Level], place: u64) -> (u64, u64)
     }
 }
 
-/// The places that a step builds on, in order; none for a given line.
+/// The places, in the list before, of the elements that a step builds on, in order; none for a given line.
 pub fn parts_of(alloc: Global, step: &Step) -> Result<Vec<u64>, OutOfMemory>
     ensures { IfOk result (λ parts. parts.items ≡ step_parts step.now) }
 {
@@ -90,8 +91,8 @@ pub fn parts_of(alloc: Global, step: &Step) -> Result<Vec<u64>, OutOfMemory>
     }
 }
 
-// The number of the step that proves the element at this place of the last list. A step that is being
-// written names this element as a part. The element's step stands in `done`, written before.
+// The number, from 0, of the step that proves the element at this place of the last list. By it a step that
+// is being written names this element as a part. The element's step stands in `done`, written before.
 fn part_number(levels: &[Level], done: &StepList, place: u64) -> u64
     ensures { result ≡ step_number done.now (maker (history_of levels.now) place) }
 {
