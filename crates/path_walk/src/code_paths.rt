@@ -56,8 +56,8 @@ pub(crate) fn look_at_codes(
     }
 }
 
-// The look at a path that changes its last field: the boxes before are combined at it. The path itself is 1
-// of its work, so that `most - 1` pairs are left; None where there are more.
+// The look at a path that changes its last field, the categorical `field`: the boxes `before` are combined at
+// it. The path itself is 1 of its work, so that `most - 1` pairs are left; None where there are more.
 fn look_at_changed(
     alloc: Global,
     problem: &Problem,
@@ -83,8 +83,9 @@ fn look_at_changed(
     }
 }
 
-// The look at a path that keeps its last field: the boxes before are fixed at the record's code there.
-// Where the record has no code, the path is closed, and no boxes are made. The work is 1.
+// The look at a path that keeps its last field, the categorical `field`: the boxes `before` are fixed at the
+// record's code there. Where the record has no code, the path is closed, and no boxes are made. The work is
+// 1.
 fn look_at_kept(
     alloc: Global,
     problem: &Problem,
@@ -115,8 +116,8 @@ fn look_at_kept(
     }
 }
 
-// The state that the path's boxes make: the first box that has all codes closes the path. Without one it is
-// open.
+// The state that a path of these boxes is in: the first box that has all codes of each field closes it, as no
+// codes are left. Without such a box it is open.
 fn first_whole(problem: &Problem, boxes: &[BoxFrom]) -> PathState
     requires problem { IsProblem problem.now }
     ensures { result ≡ whole_state (case_in problem.now) boxes.now }

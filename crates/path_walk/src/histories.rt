@@ -129,7 +129,7 @@ fn push_lines<S: Systems, L: Ledger>(
     Ok(())
 }
 
-// Appends the lines of the path's system, or nothing where a number leaves the range.
+// Appends the lines of the path's system as one list, or nothing where a number leaves the range.
 fn push_system<S: Systems, L: Ledger>(
     alloc: Global,
     source: &mut S,
@@ -183,7 +183,8 @@ fn own_system<S: Systems, L: Ledger>(
     }
 }
 
-// Appends the record's boxes, where the path before says something of all numerical fields and no other.
+// Appends the record's boxes, those of the lines that fail at it. The path `before` says something of all
+// numerical fields and of no other.
 fn push_first_boxes<S: Systems, L: Ledger>(
     alloc: Global,
     source: &mut S,
@@ -283,7 +284,8 @@ fn path_boxes(
     Ok(Arc::new(alloc, boxes)?)
 }
 
-// The boxes of the last list; none where that has lines, or where there is no list.
+// The boxes of the last list, which are those of the path before the last letter. None where that list has
+// lines, or where there is no list.
 fn last_boxes(levels: &[Level]) -> &[BoxFrom]
     ensures { result.now ≡ boxes_in levels.now }
 {
@@ -360,7 +362,8 @@ fn boxes_after(
     Ok(Sequence::from_vec(boxes))
 }
 
-// The record's code at the categorical field, 0 where it has none.
+// The record's code at the categorical field, which a path that keeps it fixes its boxes at; 0 where the
+// record has none.
 fn code_at(problem: &Problem, field: u32) -> u8
     requires problem { IsProblem problem.now }
     requires takes { TakesCodes (shape_of (case_in problem.now).survey.fields) field }

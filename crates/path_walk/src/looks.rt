@@ -47,7 +47,7 @@ impl Basis {
         }
     }
 
-    // How many lines or boxes it has. No memory.
+    // How many lines or boxes it has, which is the room that it takes. No memory.
     fn size(&self) -> usize
         ensures { result ≡ size_of self.now }
     {
@@ -68,8 +68,8 @@ pub struct Look {
 
 impl Look {
     /// Its basis, shared, so that it is kept for the certificate. `room` is how many further lines and
-    /// boxes may be kept, and is made smaller by the size of the basis. None where the look has no basis
-    /// of the path's own, or the basis is larger than the room; then the room stays.
+    /// boxes may be kept; it is made smaller by those of the basis. None where the look has no basis of
+    /// the path's own, or the basis has more than the room; then the room stays.
     pub fn kept_basis(&self, room: &mut usize) -> Result<Option<Basis>, OutOfMemory>
         ensures { IfOk result (λ kept. IfSome kept (SharesBasis self.now room.old room.new)) }
     {

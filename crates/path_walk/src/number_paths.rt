@@ -129,8 +129,8 @@ fn ends_changed(letters: &[bool]) -> bool
     !letters.is_empty() && letters[letters.len() - 1]
 }
 
-// What becomes of the path, whose work is told by `work`. It is closed at once where it keeps a field
-// without a value. A number that leaves the range is no fault here, but a state of the path.
+// The look into the path, whose work is `work`. It is closed at once where it keeps a field without a value,
+// and no system is asked for. A number that leaves the range is no fault here, but a state of the path.
 fn look_at_path<S: Systems, L: Ledger>(
     alloc: Global,
     source: &mut S,
@@ -178,8 +178,8 @@ fn look_at_path<S: Systems, L: Ledger>(
     }
 }
 
-// The look into a path from which the search does not go on, as it has no basis of its own. The system at
-// hand stands there instead of one, and is not read.
+// The look into a path of this work and state that has no basis of its own, so that the search does not go on
+// from it. The `system` at hand stands in the place of a basis, and is not read.
 fn ended(work: u64, state: PathState, system: &Arc<Held>) -> Result<Look, OutOfMemory>
     ensures work { IfOk result (λ look. look.work ≡ work) }
     ensures state { IfOk result (λ look. look.state ≡ state) }
@@ -257,7 +257,7 @@ pub(crate) fn share(system: &Arc<Held>) -> Result<Arc<Held>, OutOfMemory>
     Ok(Arc::try_clone(system)?)
 }
 
-/// The system, put where several can own it.
+/// The system, put into an `Arc`, so that several can own it.
 pub(crate) fn alone(alloc: Global, held: Held) -> Result<Arc<Held>, OutOfMemory>
     ensures { IfOk result (λ system. arc_value system ≡ held) }
 {
@@ -328,9 +328,9 @@ fn first_failing(problem: &Problem, path: &Path, lines: &[Derived]) -> PathState
     PathState::Open
 }
 
-// What the line at this place of the path's system makes of the path; None where it does not decide. Where
-// the path keeps its last field, a line without that field was tried at the path before, and did not fail
-// there. `kept` has the fields that the path keeps.
+// What the line at this place of the path's system makes of the path; None where it does not decide, and the
+// next lines do. Where the path keeps its last field, a line without that field was tried at the path before,
+// and did not fail there. `kept` has the fields that the path keeps.
 fn tried_line(
     problem: &Problem,
     path: &Path,
@@ -362,8 +362,9 @@ fn tried_line(
     }
 }
 
-// Whether the path keeps its last field, and the line of these factors does not have it. There is a factor
-// for each numerical field, and these stand first in path order, so a letter and its factor have one place.
+// Whether the path keeps its last field, and the line of these factors does not have it: such a line was
+// tried at the path before. There is a factor for each numerical field, and these stand first in path order.
+// So a letter and its factor have one place.
 #[inline(always)]
 fn was_tried(letters: &[bool], factors: &[i128]) -> bool
     requires { length letters.now ≤ length factors.now }

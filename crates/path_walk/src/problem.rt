@@ -63,7 +63,7 @@ fn with_changed(set: FieldSet, field: u32, changed: bool) -> FieldSet
     if changed { set.with(field) } else { set }
 }
 
-// Whether the path is so long that it has a letter at this place, and the letter says changed.
+// Whether the path has a letter at this place of path order, from 0, and the letter says changed.
 fn is_changed(letters: &[bool], place: usize) -> bool
     ensures { result ≡ slice_index_or letters.now place false }
 {
