@@ -10,9 +10,9 @@ use edit_paths::{Level, PathState, write_steps};
 use foundation::{OutOfMemory, Sequence};
 use std::alloc::Global;
 
-/// The end of the walk at a path of this state, where it needs no steps. Then a number left the range, or the
-/// path keeps a field without a value. `work` is that of the walk with this path. None for any other state,
-/// which is open or closed by steps.
+/// The end of the walk at a path of this state, where no steps have to be written for it. Then a number left
+/// the range, or the path keeps a field without a value. `work` is that of the walk with this path. None for
+/// any other state, which is open or closed by steps.
 pub(crate) fn stop_by(alloc: Global, state: PathState, work: u64) -> Option<WalkEnd>
     ensures { TellsStop state work result }
 {
