@@ -57,8 +57,8 @@ pub(crate) fn find_unchanged<S: Systems, L: Ledger>(
     Ok(Some(all_kept(alloc, task.survey.fields().len())?))
 }
 
-// Asks for the system of no field, so that the source keeps it. No field is eliminated, so no number leaves
-// the range.
+// Asks the source for the system of no field, and throws it away: so the source keeps it, as `localise`
+// promises at each change. No field is eliminated, so no number leaves the range.
 fn ask_for_start<S: Systems, L: Ledger>(
     alloc: Global,
     source: &mut S,
@@ -77,8 +77,8 @@ fn ask_for_start<S: Systems, L: Ledger>(
     }
 }
 
-// The outcome that changes none of `count` fields. Its certificate is one leaf: no correction weighs less
-// than 0.
+// The outcome that changes none of `count` fields, and weighs 0. Its certificate is one leaf, of the empty
+// path: no correction weighs less than 0.
 fn all_kept(alloc: Global, count: usize) -> Result<Outcome, OutOfMemory>
     ensures { IfOk result (λ o. o ≡ all_kept count) }
 {
@@ -97,8 +97,8 @@ fn all_kept(alloc: Global, count: usize) -> Result<Outcome, OutOfMemory>
     })
 }
 
-// Whether each field of the record has a value, and all reduced lines of the edits hold there, with their
-// sums in range.
+// Whether each field of the record has a value, and all lines of the edits, reduced, hold at it with their sums
+// in range. Then nothing has to be searched.
 fn holds_throughout(survey: &Survey, edits: &Arc<Edits>, row: &Row) -> bool
     requires case { IsCase (case_of survey.now (arc_value edits.now) row.now) }
     ensures { result ≡ holds_throughout (case_of survey.now (arc_value edits.now) row.now) }
@@ -106,7 +106,7 @@ fn holds_throughout(survey: &Survey, edits: &Arc<Edits>, row: &Row) -> bool
     !has_bad(row.values()) && all_hold(survey, edits.reduced(), row)
 }
 
-// Whether some field has no value.
+// Whether some of a record's values is missing (`Bad`).
 fn has_bad(values: &[Value]) -> bool
     ensures { result ≡ list_any is_bad values.now }
 {
@@ -138,8 +138,8 @@ fn holds_at(survey: &Survey, line: &Line, row: &Row) -> bool
     }
 }
 
-// Whether each of the record's codes at the fields is in its set. A value that is no code counts as code
-// 0. `sets` has one set for each of `fields`.
+// Whether the record's code at each of the fields is in that field's set, so that a line with these sets asks
+// something of it. A value that is no code counts as code 0. `sets` has one set for each of `fields`.
 #[tactic(auto, using(crate::proofs::CodeTests::codes_more, crate::proofs::CodeTests::codes_past))]
 fn is_for(fields: &[u32], sets: &[u64], row: &Row) -> bool
     requires count { length sets.now ≡ length fields.now }

@@ -96,7 +96,8 @@ pub fn localise<S: Systems, L: Ledger>(
     find_outcome(alloc, source, &task, steps)
 }
 
-// What is found of the record: nothing is searched where `find_unchanged` has the outcome.
+// The outcome of the task's record: nothing is searched where `find_unchanged` has it, and else it comes from
+// the search.
 fn find_outcome<S: Systems, L: Ledger>(
     alloc: Global,
     source: &mut S,
@@ -128,8 +129,9 @@ fn find_outcome<S: Systems, L: Ledger>(
     search(alloc, source, &problem, task.budget, steps)
 }
 
-// The outcome of the problem's record. The first end is taken, again and again, until one ends the search
-// or none is left. Of the taken paths at most `MOST_KEPT` lines and boxes are kept.
+// The outcome of the problem's record. The first of the ends, the reached paths that are not yet taken, is
+// taken again and again, until one ends the search or none is left. Of the taken paths at most `MOST_KEPT`
+// lines and boxes are kept.
 fn search<S: Systems, L: Ledger>(
     alloc: Global,
     source: &mut S,
@@ -184,9 +186,9 @@ fn search<S: Systems, L: Ledger>(
     })
 }
 
-// The outcome by which the path `end`, of its state, ends the search. A number leaves the range, or the
+// The outcome by which the path `end` ends the search, as its state says: a number leaves the range, or the
 // path is open and says something of all fields. None where the search goes on. `taken` has the paths that
-// were taken before.
+// were taken before, of which a certificate is made.
 fn end_by<S: Systems, L: Ledger>(
     alloc: Global,
     source: &mut S,
@@ -225,7 +227,7 @@ fn end_by<S: Systems, L: Ledger>(
     }
 }
 
-// An equal path, for the outcome.
+// A copy of the path for the outcome, since the path itself stays with its node.
 fn copy_of(alloc: Global, path: &Path) -> Result<Path, OutOfMemory>
     ensures { IfOk result (λ copy. copy ≡ path.now) }
 {

@@ -37,7 +37,8 @@ struct Tree<'a> {
     known: &'a Known<'a>,
 }
 
-/// A walk through a tree: the letters of the path that it has come to, the lists that lead there, and the leaves so far.
+/// A walk through a tree: the letters of the path that it has come to, the lists that lead there, and the
+/// leaves so far.
 #[derive(Drop)]
 struct TreeWalk {
     letters: Vec<bool>,
@@ -81,11 +82,11 @@ pub(crate) fn certificate<S: Systems, L: Ledger>(
     })
 }
 
-// Appends the leaves of the tree from the path of the walk's letters on. A path that was not taken is a
-// leaf by its weight. An open one that does not yet say something of all fields goes on, first with its
-// next field kept and then with it changed. Any other is a leaf where its state closes it. `walk.levels`
-// has the lists that lead to the path before its last letter. `parent` is the basis of that path; where
-// it is None, what is needed of it is made again. Letters and levels are afterwards as before.
+// Appends to `walk.leaves` the leaves of the tree from the path `walk.letters` on. A path that was not taken
+// is a leaf by its weight. From an open one that lacks fields the call goes on with the next field kept, and
+// then with it changed. Any other is a leaf where its state closes it. `walk.levels` has the lists that lead
+// to the path before its last letter, and `parent` is that path's basis; where it is None, it is made again.
+// Letters and levels are afterwards as before.
 fn push_leaves<S: Systems, L: Ledger>(
     alloc: Global,
     source: &mut S,
@@ -146,8 +147,8 @@ fn push_leaves<S: Systems, L: Ledger>(
     Ok(())
 }
 
-// Appends the leaf of a path that this state closes; the levels are the lists from which the steps of its
-// reason are written. A state that closes nothing has no leaf.
+// Appends the leaf of the path of these letters, if this state closes it. `levels` are the lists from which the
+// steps of its reason are written. A state that closes nothing, open or an overflow, adds no leaf.
 fn push_closed(
     alloc: Global,
     state: PathState,
@@ -171,7 +172,7 @@ fn push_closed(
     }
 }
 
-// Appends a leaf of the path of these letters, with this reason.
+// Appends a leaf to the certificate's leaves: the path of these letters, copied, with this reason.
 fn push_leaf(
     alloc: Global,
     letters: &[bool],

@@ -41,7 +41,7 @@ pub(crate) struct Node {
 }
 
 impl Node {
-    /// Its path, where the rest of the node is needed no more. No memory.
+    /// Its path, moved out of the node, where the rest is needed no more. No memory.
     pub(crate) fn into_path(self) -> Path
         ensures { result ≡ self.path }
     {
@@ -73,7 +73,7 @@ pub(crate) fn first_end<S: Systems, L: Ledger>(
     }
 }
 
-// The empty path alone, where `held` is the system of no field, which is its basis.
+// The list of one end, the empty path. Its basis is `held`, the system in which no field is eliminated.
 fn one_end(alloc: Global, held: Held) -> Result<VecDeque<Node>, OutOfMemory>
     ensures { IfOk result (λ ends. IsFirstEnd held ends.items) }
 {
@@ -135,8 +135,8 @@ fn leads_on(problem: &Problem, node: &Node, state: PathState) -> bool
     state.is_open() && node.path.letters().len() != field_count(problem)
 }
 
-// The node of the path with one letter more, by which its next field is kept or changed. `before` is the
-// basis of the path without that letter.
+// The node of the path with one letter more than `node`'s, by which its next field is kept (`changed` false) or
+// changed (true). `before` is the basis of the path without that letter.
 fn child(
     alloc: Global,
     problem: &Problem,
@@ -161,8 +161,8 @@ fn child(
     })
 }
 
-// What a letter at this place of the path order adds to a path's weight: the field's weight, or 0 where it
-// is kept.
+// What a letter at this place of the path order, from 0, adds to a path's weight: the field's weight where it
+// is changed, or 0 where it is kept.
 fn changed_weight(problem: &Problem, place: usize, changed: bool) -> u64
     requires problem { IsProblem problem.now }
     requires place { place < field_count (case_in problem.now) }
@@ -186,8 +186,8 @@ fn with_letter(alloc: Global, letters: &[bool], letter: bool) -> Result<Vec<bool
     Ok(more)
 }
 
-// Puts the node behind the ends that come before it. Since these stand in front of all others, its place is
-// found by halving. The list moves its shorter part.
+// Puts the node among the ends, behind those that come before it by weight and letters. These stand in front of
+// all others, so its place is found by halving. The list moves its shorter part.
 fn place_end(ends: &mut VecDeque<Node>, node: Node) -> Result<(), OutOfMemory>
     requires { IsPartitionedBy (λ end. before end node) ends.old.items }
     ensures { OnOk result (ends.new.items ≡ placed before ends.old.items node) }
@@ -197,7 +197,8 @@ fn place_end(ends: &mut VecDeque<Node>, node: Node) -> Result<(), OutOfMemory>
     Ok(())
 }
 
-// How many of the ends come before the node; they stand in front of all others.
+// How many of the ends come before the node, by weight and letters. They stand in front of all others, so this
+// is the node's place.
 fn before_count(ends: &VecDeque<Node>, node: &Node) -> usize
     requires { IsPartitionedBy (λ end. before end node.now) ends.now.items }
     ensures place { insert ends.now.items result node.now ≡ placed before ends.now.items node.now }

@@ -19,7 +19,8 @@ pub(crate) struct Known<'a> {
     pub(crate) places: BTreeMap<u128, usize>,
 }
 
-/// The place of each path among those that were taken, by its letters, read as one number.
+/// The map from each taken path to its place in `taken`, from 0. A path stands there as its letters, read as
+/// one number (`letters_number`).
 pub(crate) fn places_of(
     alloc: Global,
     taken: &[Taken],
@@ -35,7 +36,7 @@ pub(crate) fn places_of(
     Ok(places)
 }
 
-/// The path of these letters among those that were taken, None where it was not taken. No memory.
+/// What is known of the path of these letters, if it was taken; None where it was not. No memory.
 pub(crate) fn taken_path<'a>(known: &Known<'a>, letters: &Vec<bool>) -> Option<&'a Taken>
     requires known { IsKnown known.now }
     requires short { length letters.now.items ≤ 64 }
@@ -48,8 +49,8 @@ pub(crate) fn taken_path<'a>(known: &Known<'a>, letters: &Vec<bool>) -> Option<&
     }
 }
 
-// The letters as one number: a bit for each, the first one lowest, and a 1 behind them, so that other
-// letters have another number. No memory.
+// The letters as one number: a bit for each, the first one lowest, and a 1 above them. So no two paths have one
+// number, also where one begins the other. No memory.
 fn letters_number(letters: &[bool]) -> u128
     requires { length letters.now ≤ 64 }
     ensures { result ≡ letters_number letters.now }
