@@ -1,5 +1,5 @@
 //! The bounds of the numbers that a field may have, and the number between them that is given for a target.
-//! In this file `lower` says of a bound whether it is a lower or an upper one. In contracts, `found_of` is a
+//! In this file `lower` is true of a lower bound, and false of an upper one. In contracts, `found_of` is a
 //! bound as definitions see it, and `ends_of` both bounds. `side_of` is 1 for a lower bound, and -1 for an
 //! upper one. `number_told` is what a call answers: a number, or the place of a line.
 ghost use Rattle.std.specs.Prelude.{◌≡◌};
@@ -46,8 +46,8 @@ impl Bound {
         }
     }
 
-    /// Whether this bound, which comes later, is tighter than the other: it is further in, or only it is
-    /// left out at the same number.
+    /// Whether this bound leaves fewer numbers than an earlier one, `other`, on the same side. It ends further
+    /// in, or both end at one number that only this bound leaves out.
     fn is_tighter(self, lower: bool, other: Bound) -> bool
         ensures { result ≡ is_further_in (side_of lower) (found_of other) (found_of self) }
     {
@@ -102,7 +102,7 @@ impl Bound {
     }
 }
 
-/// The step of 1 from a bound into its inner side: 1 for a lower bound, -1 for an upper one.
+/// The number that is added to a bound to come 1 further in: 1 for a lower bound, -1 for an upper one.
 fn inward(lower: bool) -> Fraction
     ensures { ratio_of result ≡ whole (side_of lower) }
 {
@@ -142,8 +142,8 @@ impl Bounds {
         Ok(target)
     }
 
-    /// The bounds, narrowed by one more, which is a lower or an upper one. Where there was one on that
-    /// side, the tighter of both stays.
+    /// The bounds, narrowed by the bound `new`, which is a lower or an upper one (`lower`). Where there was
+    /// one on that side, the tighter of both stays.
     pub fn with(self, lower: bool, new: Bound) -> Bounds
         ensures { ends_of result ≡ with_found (ends_of self) lower (found_of new) }
     {

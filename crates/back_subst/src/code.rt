@@ -49,8 +49,8 @@ pub(crate) fn code_for(
     Ok(first_free(survey, &settled, field, target))
 }
 
-// The boxes after all categorical fields but the field `but` are settled, by the record's values. They say
-// which codes of `but` are forbidden.
+// The boxes that are left when each categorical field other than `but` is fixed at the record's code, or
+// eliminated. They say which codes of `but` are forbidden.
 fn settle_others(
     alloc: Global,
     survey: &Survey,
@@ -75,7 +75,8 @@ fn settle_others(
     Ok(kept)
 }
 
-// The boxes after one field: it is eliminated where the record is Bad, and else fixed at its code.
+// The boxes after the categorical `field` is settled: it is eliminated where the record has no code there
+// (`Bad`), and else fixed at its code.
 fn settle_field(
     alloc: Global,
     survey: &Survey,
@@ -101,8 +102,8 @@ fn settle_field(
     }
 }
 
-// The target, where it is one of the field's codes and no box has it there, and else the first code that
-// none has. There is such a code.
+// The code that is given to the field, whose forbidden codes the boxes have. It is the target, where that is
+// one of the field's codes and in no box, and else the first code in none. There is such a code.
 fn first_free(survey: &Survey, boxes: &[BoxFrom], field: u32, target: u8) -> u8
     requires over { AreBoxesOver (shape_of survey.now.fields) boxes.now }
     requires field { IsCategorical (shape_of survey.now.fields) field }
@@ -120,8 +121,8 @@ fn first_free(survey: &Survey, boxes: &[BoxFrom], field: u32, target: u8) -> u8
     }
 }
 
-/// The first of the codes below `size`, the field's count of codes, that no box has. None where each is in
-/// some box. `place` is the field's among the categorical ones.
+/// The first of the codes below `size`, the field's count of codes, that no box has at this field. None where
+/// each is in some box. `place` is the field's place among the categorical ones, from 0.
 pub(crate) fn first_among(boxes: &[BoxFrom], place: usize, size: u8) -> Option<u8>
     requires { (shape : List Domain) × AreBoxesOver shape boxes.now × (place < length (code_fields shape)) }
     ensures free { IfSome result (λ code. IsFirstFree (sets_of boxes.now) place size code) }
@@ -135,7 +136,8 @@ pub(crate) fn first_among(boxes: &[BoxFrom], place: usize, size: u8) -> Option<u
     None
 }
 
-/// Whether no box has the code at the field with this place among the categorical ones.
+/// Whether the code is in no box, so that it is allowed. `place` is that of its field among the categorical
+/// ones, from 0.
 pub(crate) fn is_free(boxes: &[BoxFrom], place: usize, code: u8) -> bool
     requires { (shape : List Domain) × AreBoxesOver shape boxes.now × (place < length (code_fields shape)) }
     ensures { result ≡ is_free_at (sets_of boxes.now) place code }

@@ -39,7 +39,7 @@ impl From<OutOfMemory> for GiveFault {
 
     ghost from_gives = { λ _ fault. fault ≡ faults.OutOfMemory };
 
-    // Refused memory, as the fault that says so.
+    // The fault of a call to which memory was refused, so that `?` passes it on.
     fn from(_refused: OutOfMemory) -> Self {
         GiveFault::OutOfMemory
     }

@@ -11,8 +11,8 @@ use foundation::OutOfMemory;
 use std::alloc::Global;
 use std::cmp::Ordering;
 
-/// How the value at each field of the set `changed` was found, in path order. `row` is the record with these
-/// values, and `donor` is where they were looked for first.
+/// How the value at each field of the set `changed` was found: one `How` for each, in path order, told with a
+/// gift. `row` is the record with these values, and `donor` the record that they were first taken from.
 pub(crate) fn hows(
     alloc: Global,
     survey: &Survey,
@@ -47,7 +47,8 @@ pub(crate) fn how_of(donor: Option<&Row>, field: u32, value: &Value) -> How
     }
 }
 
-// How a target that was taken was found: it is the donor's value, or the default where there is no donor.
+// How a value that is the target was found: it is the donor's value, or the default (0 or the first code) where
+// there is no donor.
 fn taken_from(donor: Option<&Row>) -> How
     ensures { result ≡ taken_from (option_copied donor.entry) }
 {
@@ -57,8 +58,8 @@ fn taken_from(donor: Option<&Row>) -> How
     }
 }
 
-// Whether the value is the target. A target of no value stands for 0 and for the first code; a value of
-// none is no target.
+// Whether the value is the target, as numbers or as codes. A target that is Bad stands for 0 and for the first
+// code. A value that is Bad is no target.
 fn is_target(target: &Value, value: &Value) -> bool
     ensures { result ≡ is_target target.now value.now }
 {

@@ -85,7 +85,8 @@ pub fn give<S: Systems, L: Ledger>(
     }
 }
 
-// The record with values at its changed fields, after its final test. The faults are those of [`give`].
+// The record with values at its changed fields: its codes are given, then its numbers, and each rule is tried
+// at it. The faults are those of [`give`].
 fn impute<S: Systems, L: Ledger>(
     alloc: Global,
     source: &mut S,

@@ -1,5 +1,5 @@
-//! What the numbers that are allowed at a field are, as laws that compute nothing. A proof that needs them
-//! calls the function.
+//! What the numbers that are allowed at a field are, as laws that compute nothing. The contract of the call
+//! states what is proved.
 ghost use Rattle.back_subst.specs.Laws.{EndLaw, IntervalLaw, TakenLaw};
 
 /// Three laws of the numbers allowed at a field, beside the values kept or given before; nothing is computed.

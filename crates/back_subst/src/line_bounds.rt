@@ -54,9 +54,9 @@ pub fn bounds_of(survey: &Survey, lines: &[Derived], row: &Row, field: u32) -> R
     Ok(bounds)
 }
 
-// The bounds, narrowed by those of the line at place `i` of the system. It gives none where the field does
-// not stand in it, or where the record's codes are not in its sets. Err has `i`, where a number of the
-// bound leaves the range.
+// The bounds, narrowed by those that the line at place `i` of the system gives to the field `at`. It gives none
+// where the field does not stand in it, or where the record's codes are not in its sets. Err has `i`, where a
+// number of the bound leaves the range.
 fn with_line(at: &BlankNumber, line: &Line, i: u64, bounds: Bounds) -> Result<Bounds, u64>
     requires shape { line.now.shape ≡ shape_of at.now.survey.now.fields }
     requires row { IsRow at.now.survey.now.fields at.now.row.now }

@@ -1,4 +1,4 @@
-//! The values that fields are given where the rules allow them: the targets.
+//! Targets: the values that fields are given where the rules allow them.
 ghost use Rattle.std.specs.Prelude.{◌≡◌, ◌<◌, IfSome, length, option_copied};
 ghost use Rattle.fraction128.specs.Formulas.{ratio_of};
 ghost use Rattle.back_subst.specs.Given.{number_in, target_of};
@@ -6,7 +6,7 @@ ghost use Rattle.back_subst.specs.Given.{number_in, target_of};
 use edit_model::{Row, Value};
 use fraction128::Fraction;
 
-/// The number of a value, 0 where it is a code or there is none.
+/// The number of a value, as a target: 0 where the value is a code or Bad.
 pub(crate) fn number_of(value: &Value) -> Fraction
     ensures { ratio_of result ≡ number_in value.now }
 {
