@@ -50,7 +50,7 @@ pub(crate) fn code_for(
 }
 
 // The boxes that are left when each categorical field other than `but` is fixed at the record's code, or
-// eliminated. They say which codes of `but` are forbidden.
+// eliminated where it has none. They say which codes of `but` are forbidden.
 fn settle_others(
     alloc: Global,
     survey: &Survey,

@@ -1,7 +1,7 @@
-//! The values that are given to the fields of a record, one after the other: the changed codes, and then
-//! the changed numbers. A field is Bad as long as it has no value. In contracts, `GivesNext` and `GivesCodes` say that the fields of the order have
-//! these values afterwards. `serves` has the edits whose systems a source gives, and `keeps` the sets of
-//! fields whose systems it keeps.
+//! The values that are given to the fields of a record, one after the other: the changed codes, and then the
+//! changed numbers. A field is Bad as long as it has no value. In contracts, `GivesNext` and `GivesCodes`
+//! say that the fields of the order have these values afterwards. `serves` has the edits whose systems a
+//! source gives, and `keeps` the sets of fields whose systems it keeps.
 ghost use Rattle.std.specs.Prelude.{◌≡◌, ◌≤◌, ◌≢◌, Err, List, Ok, OnOk, option_copied, reverse, true, ℕ};
 ghost use Rattle.std.specs.Arc.{arc_value};
 ghost use Rattle.edit_line.specs.EditSets.{EditsParts};

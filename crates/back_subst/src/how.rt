@@ -47,8 +47,8 @@ pub(crate) fn how_of(donor: Option<&Row>, field: u32, value: &Value) -> How
     }
 }
 
-// How a value that is the target was found: it is the donor's value, or the default (0 or the first code) where
-// there is no donor.
+// How a value that is the target was found. It is the donor's value, or, without a donor, the default: 0 or the
+// first code.
 fn taken_from(donor: Option<&Row>) -> How
     ensures { result ≡ taken_from (option_copied donor.entry) }
 {

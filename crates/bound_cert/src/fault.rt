@@ -5,9 +5,8 @@ use std::{error, fmt};
 /// Why a tree is not accepted.
 #[derive(Clone, Copy, Debug, PartialEq, Eq)]
 pub enum CertFault {
-    /// The first leaf, from 0, whose path is not the next of a full tree or which is not valid; of the
-    /// second kind also its first step, from 0, that is not valid, if there is one. For no leaves the leaf
-    /// is 0.
+    /// The first leaf, from 0, whose path is not the next of a full tree, or which is not valid. Of one that
+    /// is not valid also its first step, from 0, that is not, if there is one. For no leaves the leaf is 0.
     Bad { leaf: u64, step: Option<u64> },
     /// Memory was refused.
     OutOfMemory,

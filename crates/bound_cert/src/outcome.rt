@@ -1,4 +1,4 @@
-//! What an edit finds of a record, as a proof file says it: a change with its tree, no correction with its
+//! What an edit finds of a record, as a proof file says it. It is a change with its tree, no correction with its
 //! tree, or why the search ended before.
 use crate::cert::Cert;
 use crate::path::Path;

@@ -83,8 +83,8 @@ fn keeps_value_at(survey: &Survey, row: &Row, place: usize, changed: bool) -> bo
     !changed && !is_bad_at(survey, row, place)
 }
 
-// The set with the field at this place of the path order, if that is kept and has a value in the record;
-// else the set as it is.
+// The set with the field at this place of the path order, if that is kept and has a value in the record.
+// Else it is the set as it was.
 fn with_kept(set: FieldSet, survey: &Survey, row: &Row, place: usize, changed: bool) -> FieldSet
     requires short { place < length survey.now.fields }
     requires row { IsRow survey.now.fields row.now }

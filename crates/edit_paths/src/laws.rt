@@ -6,11 +6,11 @@ ghost use Rattle.edit_paths.specs.Cases.{SearchCase, IsCase};
 ghost use Rattle.edit_paths.specs.Laws.{ClosedPathLaw, LeastLaw, OpenPathLaw, OrderLaw, ReachedLaw, StepOverflowLaw, TestOverflowLaw, WalkLaw};
 ghost use Rattle.edit_paths.specs.Outcomes.{outcome_of};
 
-/// Laws of paths; nothing is computed. Where a path is closed, no point that meets the edits has the record's
-/// values at the fields that it keeps. A path that says something of all fields, in range, is open exactly
-/// where some such point differs from the record only at the fields that it changes. A path is reached
-/// exactly where all that it extends are open. A best-first walk takes the reached paths by weight, and then
-/// letter by letter. An overflow names two lines whose combination leaves the range, or a line whose sum does.
+/// Laws of paths; nothing is computed. Where a path is closed, no point that meets the edits has the
+/// record's values at the fields that it keeps. A path of all fields, in range, is open exactly where some
+/// such point differs from the record only at the fields that it changes. A path is reached exactly where
+/// all that it extends are open. A best-first walk takes the reached paths by weight, and then letter by
+/// letter. An overflow names two lines whose combination leaves the range, or a line whose sum does.
 pub fn path_laws()
     ensures closed_path { ClosedPathLaw }
     ensures open_path { OpenPathLaw }

@@ -106,7 +106,7 @@ fn holds_throughout(survey: &Survey, edits: &Arc<Edits>, row: &Row) -> bool
     !has_bad(row.values()) && all_hold(survey, edits.reduced(), row)
 }
 
-// Whether some of a record's values is missing (`Bad`).
+// Whether some of a record's values is `Bad`: a field has no value.
 fn has_bad(values: &[Value]) -> bool
     ensures { result ≡ list_any is_bad values.now }
 {

@@ -129,8 +129,8 @@ fn find_outcome<S: Systems, L: Ledger>(
     search(alloc, source, &problem, task.budget, steps)
 }
 
-// The outcome of the problem's record. The first of the ends, the reached paths that are not yet taken, is
-// taken again and again, until one ends the search or none is left. Of the taken paths at most `MOST_KEPT`
+// The outcome of the problem's record. The ends are the reached paths that are not yet taken. The first one is
+// taken, again and again, until one ends the search or none is left. Of the taken paths at most `MOST_KEPT`
 // lines and boxes are kept.
 fn search<S: Systems, L: Ledger>(
     alloc: Global,
@@ -186,8 +186,8 @@ fn search<S: Systems, L: Ledger>(
     })
 }
 
-// The outcome by which the path `end` ends the search, as its state says: a number leaves the range, or the
-// path is open and says something of all fields. None where the search goes on. `taken` has the paths that
+// The outcome by which the path `end` ends the search, as its state says. A number leaves the range there, or
+// the path is open and says something of all fields. None where the search goes on. `taken` has the paths that
 // were taken before, of which a certificate is made.
 fn end_by<S: Systems, L: Ledger>(
     alloc: Global,

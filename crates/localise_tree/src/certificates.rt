@@ -5,8 +5,8 @@
 //! Below, `source` gives derived systems, and `steps` counts the pairs of lines that are combined for
 //! them. In contracts, `serves` has the edits whose systems it gives, and `keeps` the sets of fields whose
 //! systems it keeps. `IsProblem` says that a problem's parts fit, and `IsTaken` that a taken path has its
-//! state and a basis that is right. `IsKnown` says that places are those of the taken paths, `IsKnownBasis`
-//! that a basis, if there is one, is the path's, and `HasListsBefore` that lists lead to what the path
+//! state and a basis that is right. `IsKnown` says that places are those of the taken paths. `IsKnownBasis`
+//! says that a basis, if there is one, is the path's, and `HasListsBefore` that lists lead to what the path
 //! before the last letter has. `leaves_below` has the leaves of the tree from a path on.
 ghost use Rattle.std.specs.Prelude.{◌≡◌, ◌≤◌, ◌++◌, ℕ, IfOk, OnOk, length, true};
 ghost use Rattle.std.specs.List.{AllByRecursion};
@@ -85,7 +85,7 @@ pub(crate) fn certificate<S: Systems, L: Ledger>(
 // Appends to `walk.leaves` the leaves of the tree from the path `walk.letters` on. A path that was not taken
 // is a leaf by its weight. From an open one that lacks fields the call goes on with the next field kept, and
 // then with it changed. Any other is a leaf where its state closes it. `walk.levels` has the lists that lead
-// to the path before its last letter, and `parent` is that path's basis; where it is None, it is made again.
+// to the path before its last letter. `parent` is the basis of that path, and is made again where it is None.
 // Letters and levels are afterwards as before.
 fn push_leaves<S: Systems, L: Ledger>(
     alloc: Global,

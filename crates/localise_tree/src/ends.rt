@@ -161,8 +161,8 @@ fn child(
     })
 }
 
-// What a letter at this place of the path order, from 0, adds to a path's weight: the field's weight where it
-// is changed, or 0 where it is kept.
+// What a letter at this place of the path order, from 0, adds to a path's weight. That is the field's weight
+// where it is changed, and 0 where it is kept.
 fn changed_weight(problem: &Problem, place: usize, changed: bool) -> u64
     requires problem { IsProblem problem.now }
     requires place { place < field_count (case_in problem.now) }

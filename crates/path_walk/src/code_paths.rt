@@ -116,8 +116,8 @@ fn look_at_kept(
     }
 }
 
-// The state that a path of these boxes is in: the first box that has all codes of each field closes it, as no
-// codes are left. Without such a box it is open.
+// The state of a path with these boxes. The first box that has all codes of each field closes it, as no codes
+// are left. Without such a box it is open.
 fn first_whole(problem: &Problem, boxes: &[BoxFrom]) -> PathState
     requires problem { IsProblem problem.now }
     ensures { result ≡ whole_state (case_in problem.now) boxes.now }

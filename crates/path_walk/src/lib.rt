@@ -1,6 +1,7 @@
-//! A look into one path of a search: the system of the numerical fields that it changes, its boxes, what becomes of
-//! it, and the lists from which its closing steps come. Begin with [`look_into`], which looks into a path from the
-//! basis of the path before its last letter; [`push_lists`] gives the lists.
+//! A look into one path of a search. It tells the path's system, which is without the numerical fields that
+//! the path changes, its boxes, and what becomes of it. Also the lists from which its closing steps come.
+//! Begin with [`look_into`], which looks into a path from the basis of the path before its last letter;
+//! [`push_lists`] gives the lists.
 #![tactic(auto)]
 
 mod code_paths;

@@ -26,8 +26,8 @@ use std::alloc::Global;
 use std::sync::Arc;
 use std::sync::ledger::Ledger;
 
-/// What the paths with one letter more are looked into from, and its proof is written from: the lines of a
-/// path's system, or, where it says something of all numerical fields, its boxes.
+/// What is made of a path, for the looks into the paths with one letter more, and for the steps of a proof.
+/// These are the lines of its system, or, where it says something of all numerical fields, its boxes.
 #[derive(Drop)]
 pub enum Basis {
     /// The lines of the path's system.

@@ -178,8 +178,8 @@ fn look_at_path<S: Systems, L: Ledger>(
     }
 }
 
-// The look into a path of this work and state that has no basis of its own, so that the search does not go on
-// from it. The `system` at hand stands in the place of a basis, and is not read.
+// The look into a path that has no basis of its own, with its work and state: the search does not go on from
+// it. The `system` at hand stands in the place of a basis, and is not read.
 fn ended(work: u64, state: PathState, system: &Arc<Held>) -> Result<Look, OutOfMemory>
     ensures work { IfOk result (λ look. look.work ≡ work) }
     ensures state { IfOk result (λ look. look.state ≡ state) }
@@ -362,8 +362,8 @@ fn tried_line(
     }
 }
 
-// Whether the path keeps its last field, and the line of these factors does not have it: such a line was
-// tried at the path before. There is a factor for each numerical field, and these stand first in path order.
+// Whether the path keeps its last field, and the line of these factors does not have it. Such a line was tried
+// at the path before. There is a factor for each numerical field, and these stand first in path order.
 // So a letter and its factor have one place.
 #[inline(always)]
 fn was_tried(letters: &[bool], factors: &[i128]) -> bool

@@ -128,8 +128,8 @@ fn first_basis<S: Systems, L: Ledger>(
     }
 }
 
-// The bases of the path of these letters, for the lists that it leads to: its own, and that of the path before
-// its last letter. The empty path has none before it.
+// The bases of the path of these letters, from which its lists are made: its own, and that of the path before
+// its last letter. The empty path has no path before it.
 fn bases_of<'a>(letters: &[bool], own: &'a Basis, before: &'a Basis) -> Bases<'a>
     ensures own { option_copied result.own ≡ Some own.now }
     ensures parent { option_copied result.parent ≡ (if length letters.now == 0 then None else Some before.now) }
