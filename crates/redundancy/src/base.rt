@@ -33,8 +33,8 @@ pub(crate) fn base_of(
     Ok(base)
 }
 
-// Appends to the base the lines of which `usable` says so at their places. Each has its place, counted from
-// `first` on, as its origin.
+// Appends to the base those of the lines of which `usable` says so, one flag for each. The origin of a line is
+// its place among these lines, counted from `first` on.
 fn push_usable(
     alloc: Global,
     base: &mut Vec<Derived>,
@@ -54,7 +54,7 @@ fn push_usable(
     Ok(())
 }
 
-// Appends the line with this number as its origin, if it is usable.
+// Appends the line with this number as its origin, where `usable` is true; else it appends nothing.
 fn push_if(
     alloc: Global,
     base: &mut Vec<Derived>,

@@ -1,7 +1,7 @@
 //! The steps that prove an element of a derived list: each element once, parts before the whole. An element
-//! is named by how many lists were derived before its own, and its place there, both from 0. In contracts,
-//! the functions of this file stand under their own names; `with_proof` is what `prove` leaves, and
-//! `step_number` what `number_of` answers.
+//! is named by how many lists were derived before its own, and its place there, both from 0. A slice of
+//! lists has the last derived list first. In contracts, the functions of this file stand under their own
+//! names; `with_proof` is what `prove` leaves, and `step_number` what `number_of` answers.
 ghost use Rattle.std.specs.Prelude.{◌≡◌, IfOk, OnOk, map};
 ghost use Rattle.std.specs.List.{position};
 ghost use Rattle.edit_paths.specs.Histories.{has_step, is_element, maker, step_number, with_step_numbers, steps_to, with_proof};
@@ -66,7 +66,7 @@ fn prove(
     }
 }
 
-// Whether the element has a step, so that none is written again. No memory.
+// Whether one of the steps in `done` proves the element, so that none is written again. No memory.
 fn has_step(done: &[Written], element: (u64, u64)) -> bool
     ensures { result ≡ has_step element done.now }
 {
@@ -81,14 +81,15 @@ fn is_element(first: (u64, u64), second: (u64, u64)) -> bool
     first.0 == second.0 && first.1 == second.1
 }
 
-// The place of the first step that proves the element, if there is one. No memory.
+// The place in `done`, from 0, of the first step that proves the element; None where none does. No memory.
 fn first_step(done: &[Written], element: (u64, u64)) -> Option<usize>
     ensures { result ≡ position (λ w. is_element w.element element) done.now }
 {
     done.iter().position(|one| is_element(one.element, element))
 }
 
-// The number of the element's step, from 0. Where it has none, this is the count of the steps. No memory.
+// The number of the element's step, from 0, by which later steps name it. Where it has none, this is the count
+// of the steps. No memory.
 fn number_of(done: &[Written], element: (u64, u64)) -> u64
     ensures { result ≡ step_number done.now element }
 {
@@ -99,8 +100,8 @@ fn number_of(done: &[Written], element: (u64, u64)) -> u64
 }
 
 // Where the element at this place of the first of the lists was made: how many lists come before that one,
-// and the place there. An element that was taken over is looked for in the list behind, from
-// which it was taken. No memory.
+// and the place there. An element that was taken over is looked for in the list behind, from which it was
+// taken. A place past the end stands for place 0 there. Without lists the answer is `(0, place)`. No memory.
 fn maker(lists: &[Sequence<Making>], place: u64) -> (u64, u64)
     ensures { result ≡ maker lists.now place }
 {
@@ -139,8 +140,8 @@ fn part_numbers(
     )
 }
 
-// The step, where the places of its parts are replaced by the numbers of the steps that prove them. A given
-// line keeps its number.
+// A copy of the step, where the places of its parts are replaced by the numbers of the steps that prove them. A
+// given line keeps its number.
 fn with_step_numbers(
     alloc: Global,
     lists: &[Sequence<Making>],

@@ -50,8 +50,9 @@ pub fn prune(
     Ok(verdicts)
 }
 
-// Says that each line is in form: a set for each categorical field, a factor for each numerical one, and
-// all numbers in range (`IsLine`). [`prune`] calls it for its proof; nothing is computed.
+// Does nothing with the lines: its contract says that each is in form, and [`prune`] calls it for its proof.
+// In form is a line with a set for each categorical field, a factor for each numerical one, and all numbers in
+// range (`IsLine`).
 fn read_lines(lines: &[Line])
     ensures { All IsLine lines.now }
 {
@@ -87,8 +88,8 @@ fn try_line(
     Ok(verdict)
 }
 
-// The verdict on the line at the place, from the lines that are left, of which it is none. An equality is
-// kept; of another line the walk tells. `row` is the record without values.
+// The verdict on the line at the place, by the lines of which `left` says that they are left; it is none of
+// these. An equality is kept; of another line the walk tells. `row` is the record without values.
 fn verdict_on(
     alloc: Global,
     survey: &Survey,

@@ -1,8 +1,9 @@
-//! The walk along the path that changes every field: the numerical fields are eliminated in declared order,
-//! and then the categorical ones. It ends where something absurd is left, or nothing is, or the budget is
-//! passed. In this file `wholes` has the set of all codes of each categorical field. In contracts,
-//! `number_walk`, `box_walk` and `all_code_walk` are the verdict of the walk from these lines or boxes on.
-//! `number_end` and `IsCodeEnd` tell the verdict of one turn, if that ends the walk.
+//! The walk that tries one line. It begins with the line's negation and the lines that are left. From these
+//! it eliminates the numerical fields in declared order, and then the categorical ones. It ends where
+//! something absurd is left, or no field is, or the budget is passed. Absurd is a line for all codes that no
+//! numbers meet, or a box of all codes. In this file `wholes` has the set of all codes of each categorical
+//! field. In contracts, `number_walk`, `box_walk` and `all_code_walk` are the verdict of the walk from these
+//! lines or boxes on. `number_end` and `IsCodeEnd` tell the verdict of one turn, if that ends the walk.
 ghost use Rattle.std.specs.Prelude.{◌≡◌, ◌≤◌, ◌<◌, ◌+◌, [], All, IfNone, IfOk, None, Ok};
 ghost use Rattle.edit_model.specs.Rows.{IsRow};
 ghost use Rattle.edit_line.specs.Lines.{HaveShape};
@@ -72,7 +73,8 @@ pub(crate) fn verdict_of(
     boxes_verdict(alloc, survey, row, &wholes, walk, budget)
 }
 
-// The walk before any field is eliminated: the reduced lines, and work of 1, that of the empty path.
+// The walk before any field is eliminated: the lines of the base, reduced, and the work of 1, which each walk
+// begins with.
 fn first_walk(alloc: Global, base: Vec<Derived>) -> Result<NumberWalk, OutOfMemory>
     ensures lines { IfOk result (λ walk. walk.lines.items ≡ reduce_derived base.items) }
     ensures history { IfOk result (λ walk. walk.history ≡ with_lines [] (reduce_derived base.items)) }
@@ -206,8 +208,8 @@ fn verdict_with_boxes(
     codes_verdict(alloc, survey, wholes, walk, budget)
 }
 
-// The verdict of the walk over the categorical fields, in declared order. Where no turn ends it, the line
-// is needed.
+// The verdict of the walk over the categorical fields, in declared order, from its boxes on. Where no turn ends
+// it, nothing absurd is left, and the line is needed.
 fn codes_verdict(
     alloc: Global,
     survey: &Survey,
@@ -262,7 +264,7 @@ fn code_turn(
     }
 }
 
-// The verdict that drops the line, if a box of all codes is left in the walk; else None.
+// The verdict that drops the line, if a box of all codes is left in the walk; else None, and the walk goes on.
 fn closed_by_box(
     alloc: Global,
     wholes: &[u64],
@@ -284,8 +286,8 @@ fn closing_box(wholes: &[u64], boxes: &[BoxFrom]) -> Option<usize>
     boxes.iter().position(|b| b.sets() == wholes)
 }
 
-// The verdict that drops the line, with the steps that prove the absurd line or box at this place of the
-// last list.
+// The verdict that drops the line that is tried. It comes with the steps that prove the absurd line or box at
+// this place of the last list.
 fn dropped(alloc: Global, history: &History, place: usize) -> Result<Verdict, OutOfMemory>
     ensures { IfOk result (λ verdict. verdict ≡ Dropped (steps_to history.now place)) }
 {
