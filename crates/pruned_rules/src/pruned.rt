@@ -61,7 +61,8 @@ impl PrunedRules {
     }
 }
 
-// The lines that are kept, each with its place among all lines.
+// Copies of the lines whose verdict keeps them, each with its place among all lines, from 0. There is one
+// verdict for each line.
 fn kept_of(
     alloc: Global,
     lines: &[Line],
@@ -78,7 +79,7 @@ fn kept_of(
     Ok(kept)
 }
 
-// Appends the line with its number, if it is kept.
+// Appends a copy of the line with its number, where the verdict keeps it; else it appends nothing.
 fn push_kept(
     alloc: Global,
     kept: &mut Vec<(u32, Line)>,
