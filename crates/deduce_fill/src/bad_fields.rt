@@ -1,4 +1,5 @@
-//! The fields at which a record has no value, as a list, as a path and as a set.
+//! The fields at which a record has no value (`Bad`), as a list, as a path and as a set. Path order has the
+//! numerical fields first, and then the categorical ones.
 ghost use Rattle.std.specs.Prelude.{◌≡◌, ◌<◌, ◌++◌, ◌∷◌, [], All, IfOk, OnOk, if◌then◌else◌, length};
 ghost use Rattle.edit_model.specs.FieldSets.{set_of};
 ghost use Rattle.edit_model.specs.Rows.{IsRow, is_bad, value_of};
@@ -8,7 +9,7 @@ use edit_model::{FieldSet, Row, Survey};
 use foundation::OutOfMemory;
 use std::alloc::Global;
 
-/// The fields at which the record has no value, in path order.
+/// The numbers of the fields at which the record has no value, in path order: these are to be filled.
 pub(crate) fn bad_fields(alloc: Global, survey: &Survey, row: &Row) -> Result<Vec<u32>, OutOfMemory>
     requires { IsRow survey.now.fields row.now }
     ensures { IfOk result (λ fields. fields.items ≡ bad_fields survey.now.fields row.now) }
@@ -44,7 +45,7 @@ pub(crate) fn own_path(alloc: Global, survey: &Survey, row: &Row) -> Result<Vec<
     Ok(path)
 }
 
-/// The set of these fields. No memory.
+/// The set of these fields, by their numbers, each below 64. No memory.
 pub(crate) fn set_of(fields: &[u32]) -> FieldSet
     requires { All (λ f. f < 64) fields.now }
     ensures { result ≡ set_of fields.now }

@@ -57,8 +57,8 @@ pub(crate) fn test_field<L: Ledger>(
     })
 }
 
-// What the walk along the record's path ends in, over the edits and the line. `spent` is the work done for
-// the record before.
+// What the walk along the record's own path ends in, over the edits and the line, which asks for another value
+// at the tested field. `spent` is the work done for the record before.
 fn walk_with<L: Ledger>(
     alloc: Global,
     task: &Task,

@@ -143,8 +143,9 @@ fn fill_open<L: Ledger>(
     }
 }
 
-// What the tests of all fields without a value make of the record, after this work. `candidate` is the
-// record with values given at these fields.
+// What becomes of the record by the tests of all `fields`, those without a value, one after the other.
+// `candidate` is the record with values given at these fields, and `work` was done before. The first test that
+// stops ends it.
 fn test_fields<L: Ledger>(
     alloc: Global,
     task: &Task,
@@ -179,7 +180,7 @@ fn test_fields<L: Ledger>(
 }
 
 // What was found of the fields so far: the record with the values that are forced, and a list of these.
-// `tests` is how many tests this took, and `work` how much work.
+// `tests` is how many tests this took, and `work` how much work, with that of the first walk.
 #[derive(Drop)]
 struct Filling {
     row: Row,

@@ -18,7 +18,7 @@ use std::sync::Arc;
 
 /// The lines by which the record's value at the field is tested. Where a point has another value there one
 /// of them holds, and else none. They are two for a number, above it and below it, one for a code, and none
-/// for no value.
+/// where the record has no value there.
 pub(crate) fn test_lines_of(
     alloc: Global,
     survey: &Survey,
@@ -56,7 +56,8 @@ pub(crate) fn test_lines_of(
     Ok(lines)
 }
 
-// The line `factor * x + constant > 0` for all codes, where x is the number at the field.
+// The line `factor * x + constant > 0` for all codes, where x is the number at the field. Such lines say that x
+// is above a number, or below it.
 fn side_line(
     alloc: Global,
     survey: &Survey,
@@ -86,7 +87,7 @@ fn factor_at(other: u32, field: u32, factor: i128) -> i128
     if other == field { factor } else { 0 }
 }
 
-// The negative of a number in range, which is in range too.
+// The negative of a number. It is in range, as the number is, so that -2^127 can't come.
 fn negative(number: i128) -> i128
     requires { InRange number }
     ensures value { result ≡ neg_ℤ number }
@@ -110,7 +111,8 @@ fn other_line(alloc: Global, survey: &Survey, field: u32, code: u8) -> Result<Li
     Ok(Line::new(survey, sets, factors, -1, Relation::AtLeast))
 }
 
-/// The edits and one more line, which has the number after theirs.
+/// Copies of the edits and of one more line behind them, which has their count as its number, as they are
+/// numbered from 0. Over these a walk tests a value.
 pub(crate) fn edits_with(
     alloc: Global,
     survey: &Survey,
