@@ -70,8 +70,8 @@ fn push_pins(
     Ok(())
 }
 
-// Puts the pin of the record's value at this one field behind `lines`, numbered by its place. It changes
-// nothing where the field is not fixed.
+// Puts the pin of the record's value at this one field behind `lines`, numbered by its place, from 0. It
+// changes nothing where the field is not fixed, or has no pin.
 fn push_if_fixed(
     alloc: Global,
     survey: &Survey,

@@ -65,8 +65,8 @@ pub fn link<L: Ledger>(
     search(alloc, survey, &edits, row, budget, steps)
 }
 
-// What follows on the search of the record by these edits: a change with values, no correction, or a stop.
-// It stops by the budget or the range of numbers. The edits tell the corrections that leave the record's
+// The answer that the search of the record by these edits leads to: a change with values, no correction, or a
+// stop. It stops by the budget or the range of numbers. The edits tell the corrections that leave the record's
 // fixed fields alone (`TellLinkedCorrections`).
 fn search<L: Ledger>(
     alloc: Global,
@@ -111,8 +111,8 @@ struct Change {
     cert: Cert,
 }
 
-// What follows on a change that was found. Its changed fields are given values, without a donor. Where a
-// number leaves the range in that giving, the answer is a stop that tells where.
+// The answer for a change that was found. Its changed fields are given values, without a donor. Where a number
+// leaves the range in that giving, the answer is a stop that tells where.
 fn with_values<L: Ledger>(
     alloc: Global,
     survey: &Survey,
@@ -154,7 +154,8 @@ fn with_values<L: Ledger>(
     }
 }
 
-// The answer for a change whose fields are given no values, with the fault at which the giving stops.
+// The answer for a change that was found, and whose fields are given no values, with the fault at which the
+// giving stops.
 fn stopped(change: Change, fault: GiftFault) -> Linked
     ensures { result ≡ linked.Stopped (record {
       outcome = outcome.Change change.path change.weight change.cert;

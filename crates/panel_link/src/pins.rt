@@ -63,8 +63,8 @@ fn number_pin(alloc: Global, survey: &Survey, field: u32, x: Fraction) -> Result
     Ok(Line::divided(shape, sets, factors, constant, Relation::Equal))
 }
 
-// The factors, of all numerical fields in order, of a line in which this field stands alone, with the
-// denominator of `x` as its factor.
+// The factors, of all numerical fields in declared order, of the pin of the number `x` at `field`. This field
+// stands there alone, with the denominator of `x` as its factor; the others have 0.
 fn factors_at(
     alloc: Global,
     survey: &Survey,
@@ -80,8 +80,8 @@ fn factors_at(
     Ok(factors)
 }
 
-// The factor of the field `other` in that line: the denominator of `x` at `field` itself, and 0
-// elsewhere.
+// The factor of the field `other` in the pin of the number `x` at `field`: the denominator of `x` at `field`
+// itself, and 0 elsewhere.
 fn factor_at(other: u32, field: u32, x: Fraction) -> i128
     ensures { result ≡ own_factor field x other }
 {
@@ -97,9 +97,9 @@ fn negative(number: i128) -> i128
     -number
 }
 
-// Puts the line last that the code at the field is never another one than `code`, numbered by its place.
-// Its set at the field has the other codes, and its sum is -1, which is never at least 0. A field with no
-// other code would have an empty set, and has no such line.
+// Puts behind `lines` the pin of the code: the line that the code at the field is never another one, numbered
+// by its place. Its set at the field has the other codes, and its sum is -1, which is never at least 0. A field
+// with no other code would have an empty set, and has no pin.
 fn push_code_pin(
     alloc: Global,
     survey: &Survey,
@@ -126,7 +126,8 @@ fn push_code_pin(
     Ok(())
 }
 
-// Takes the code out of the set at `place`, which is its field's among the categorical ones.
+// Takes the code out of the set at `place`, so that the other codes are left there. `place` is that of the
+// field among the categorical ones, from 0.
 fn leave_others(sets: &mut Vec<u64>, place: usize, code: u8)
     requires place { place < length sets.old.items }
     requires code { code < 64 }
@@ -135,7 +136,7 @@ fn leave_others(sets: &mut Vec<u64>, place: usize, code: u8)
     sets[place] = others_of(sets[place], code);
 }
 
-// The codes of the set but this one, whether it was in the set or not.
+// The set without this code, whether that was in it or not. Sets have a bit for each code.
 fn others_of(set: u64, code: u8) -> u64
     requires { code < 64 }
     ensures { result ≡ others_of set code }
@@ -143,7 +144,7 @@ fn others_of(set: u64, code: u8) -> u64
     set & (set ^ (1 << code))
 }
 
-// Whether no set is empty. A line with an empty set would ask nothing of any record.
+// Whether each set has some code. A line with an empty set would ask nothing of any record, so it is left out.
 fn have_codes(sets: &[u64]) -> bool
     ensures { result ≡ none_is_empty sets.now }
 {
