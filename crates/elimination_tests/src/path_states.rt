@@ -1,4 +1,4 @@
-//! The states that a path may be in: which of them are open, and which are closed.
+//! The states that a path of the search may be in: a test of which are open, and which are closed.
 use bound_cert::Event;
 use edit_line::Place;
 use edit_paths::{PathState, outcome_laws, path_laws};
@@ -15,8 +15,8 @@ fn first_wrong(states: &[(PathState, bool, bool)]) -> Option<usize> {
     None
 }
 
-// Each state with whether it is open, and whether it is closed. The calls of laws at the end compute
-// nothing.
+// Each state is tried with what is expected: whether it is open, and whether it is closed. The two laws at the
+// end compute nothing: that they can be called is tried, too.
 #[test]
 fn an_overflow_is_neither_open_nor_closed(rt: HostRuntime) -> Result<(), Fail> {
     let step = Event::Step {

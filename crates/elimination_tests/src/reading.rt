@@ -26,7 +26,8 @@ Turnover - Costs - Profit = 0
 /// A line that a test expects: its sets, its factors, its constant, and its relation.
 pub(crate) type LinePlan = (&'static [u64], &'static [i128], i128, Relation);
 
-/// The survey that the text reads as. A text without a reading, or of 2^32 bytes or more, ends the test.
+/// The survey that the rule file `text` is read as. A text without a reading, or of 2^32 bytes or more, ends
+/// the test with a failure.
 pub(crate) fn survey_of(alloc: Global, text: &[u8]) -> Result<Survey, Fail> {
     if text.len() >= 1 << 32 {
         return Err("a short text")?;
@@ -34,7 +35,7 @@ pub(crate) fn survey_of(alloc: Global, text: &[u8]) -> Result<Survey, Fail> {
     Ok(read_rules(alloc, text).ok().ok_or("a survey")?)
 }
 
-/// Whether the line is the one that is expected.
+/// Whether the line is the one that is expected: its sets, factors, constant and relation are the plan's.
 pub(crate) fn is_line(line: &Line, plan: &LinePlan) -> bool {
     let (sets, factors, constant, relation) = plan;
     line.sets() == *sets
@@ -43,7 +44,7 @@ pub(crate) fn is_line(line: &Line, plan: &LinePlan) -> bool {
         && line.relation() == *relation
 }
 
-/// The edits of the survey's rules, for several owners.
+/// The edits of the survey's rules, in an `Arc`, so that a pool and its readers may own them.
 pub(crate) fn edits_of(alloc: Global, survey: &Survey) -> Result<Arc<Edits>, Fail>
     ensures { IfOk result (λ edits. (arc_value edits).shape ≡ shape_of survey.now.fields) }
 {
@@ -51,7 +52,8 @@ pub(crate) fn edits_of(alloc: Global, survey: &Survey) -> Result<Arc<Edits>, Fai
     Ok(Arc::new(alloc, edits)?)
 }
 
-/// The set of these fields, by their numbers from 0. A field that is not numerical ends the test.
+/// The set of these numerical fields, by their numbers from 0. A field that is not numerical ends the test with
+/// a failure.
 pub(crate) fn number_set(survey: &Survey, fields: &[u32]) -> Result<FieldSet, Fail>
     ensures { IfOk result (λ set. AreNumerical (shape_of survey.now.fields) set) }
 {
@@ -62,8 +64,8 @@ pub(crate) fn number_set(survey: &Survey, fields: &[u32]) -> Result<FieldSet, Fa
     Ok(set)
 }
 
-/// The set and this field; a field that is not numerical ends the test. Fields are below 64, as `with`
-/// asks.
+/// The set with this field, by its number, added. A field that is not numerical, or has no number below 64,
+/// ends the test with a failure.
 fn with_number(survey: &Survey, set: FieldSet, field: u32) -> Result<FieldSet, Fail>
     requires { AreNumerical (shape_of survey.now.fields) set }
     ensures { IfOk result (λ more. AreNumerical (shape_of survey.now.fields) more) }
@@ -74,7 +76,7 @@ fn with_number(survey: &Survey, set: FieldSet, field: u32) -> Result<FieldSet, F
     Ok(set.with(field))
 }
 
-// Whether the field is one of `fields`.
+// Whether the number `field` is among `fields`.
 fn has_field(fields: &[u32], field: u32) -> bool
     ensures { result ≡ true → has_field fields.now field ≡ true }
 {

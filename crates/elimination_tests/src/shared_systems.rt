@@ -1,6 +1,7 @@
-//! The trade survey's systems in a pool: one reader obtains them or publishes them, another finds them,
-//! and two threads share the pool. A reader is one of a pool (`IsReaderOf`) where it has walked entries
-//! of that pool alone.
+//! Tests of a pool of derived systems, by those of the trade survey. One reader obtains or publishes them,
+//! another finds them, and two threads share the pool. A system that is obtained is made, and kept by the
+//! pool, where it is not there yet. One that is found was there. A reader is one of a pool (`IsReaderOf`)
+//! where it has walked entries of that pool alone.
 ghost use Rattle.std.specs.Prelude.{◌≡◌, ◌<◌, [], IfOk};
 ghost use Rattle.std.specs.Arc.{arc_value};
 ghost use Rattle.linear_elim.specs.Systems.{AreNumerical};
@@ -31,7 +32,7 @@ const WITHOUT_COSTS: &[LinePlan] = &[
 /// The one line that is left without Costs and Profit.
 const WITHOUT_BOTH: &[LinePlan] = &[(&[], &[1, 0, 0], 0, AtLeast)];
 
-/// The edits of the trade survey, and the sets of Costs and of Costs and Profit.
+/// The edits of the trade survey, and the set of Costs alone and that of Costs and Profit.
 #[derive(Drop)]
 struct Trade {
     edits: Arc<Edits>,
@@ -51,7 +52,7 @@ fn read_trade(alloc: Global) -> Result<Trade, Fail> {
     })
 }
 
-/// Whether the system has these lines.
+/// Whether the system has just these lines, in this order.
 fn has_lines(system: &System, wanted: &[LinePlan]) -> bool {
     let lines = system.lines();
     lines.len() == wanted.len()
@@ -69,8 +70,8 @@ fn is_shared(held: &Held, wanted: &[LinePlan]) -> bool {
     }
 }
 
-/// Whether the pool answers the reader the system without these fields, with these lines, and shared with
-/// the pool.
+/// Whether the pool gives the reader the system without these fields, with these lines, and as one that it
+/// shares. False also where it refuses.
 fn obtains<R: Wait, L: Ledger>(
     rt: &R,
     alloc: Global,
@@ -90,8 +91,8 @@ fn obtains<R: Wait, L: Ledger>(
     }
 }
 
-/// Whether the pool answers the reader the system without Costs, and then the one without Costs and
-/// Profit, both shared.
+/// Whether the pool gives the reader the system without Costs, and then the one without Costs and Profit, both
+/// shared.
 fn obtains_both<R: Wait, L: Ledger>(
     rt: &R,
     alloc: Global,
@@ -122,7 +123,7 @@ fn finds(pool: &Pool, reader: &mut Reader, fields: FieldSet, wanted: &[LinePlan]
     }
 }
 
-/// A pool for these edits.
+/// A new pool for systems of these edits, without any. A want of memory ends the test.
 fn pool_of(alloc: Global, edits: &Arc<Edits>) -> Result<Pool, Fail>
     ensures { IfOk result (λ pool. pool.edits ≡ arc_value edits.now) }
 {
@@ -130,17 +131,17 @@ fn pool_of(alloc: Global, edits: &Arc<Edits>) -> Result<Pool, Fail>
     Ok(Pool::new(alloc, edits).ok().ok_or("memory")?)
 }
 
-/// A reader of the pool, which knows no system yet.
+/// A new reader of the pool, which knows no system yet. A want of memory ends the test.
 fn reader_of(alloc: Global, pool: &Pool) -> Result<Reader, Fail>
     ensures { IfOk result (λ reader. reader ≡ []) }
 {
     Ok(pool.reader(alloc).ok().ok_or("memory")?)
 }
 
-/// Whether systems that one reader obtains are kept for another. A new pool has no system. Then the
-/// first reader is answered the systems of both sets, twice, the second time from what it knows. Then
-/// the second reader finds the system without Costs. `blank` is one of the ledger `L` (`name`, `parts`),
-/// and starts the counter of steps.
+/// Whether the pool keeps the systems that one reader obtains, so that another finds them. A new pool has no
+/// system. Then the first reader obtains those of both sets, twice, the second time from what it knows. Then
+/// the second reader finds the system without Costs. `blank` is one of the ledger `L` (`name`, `parts`), and
+/// starts the counter of steps.
 fn are_kept<R: Wait, L: Ledger>(rt: &R, alloc: Global, blank: Blank) -> Result<bool, Fail>
     requires name { blank.name ≡ L.name }
     requires parts { blank.parts ≡ L.parts }
@@ -170,7 +171,7 @@ fn systems_are_kept_for_other_readers(rt: HostRuntime) -> Result<(), Fail> {
     Ok(())
 }
 
-/// Whether a system that was made outside of the pool and then published is stored there, and found.
+/// Whether the pool stores a system that was made outside of it and is published there, and its reader finds it.
 /// `blank` is one of the ledger `L` (`name`, `parts`), and starts the counter of steps.
 fn is_published<R: Wait, L: Ledger>(rt: &R, alloc: Global, blank: Blank) -> Result<bool, Fail>
     requires name { blank.name ≡ L.name }
@@ -201,8 +202,8 @@ fn a_system_is_published(rt: HostRuntime) -> Result<(), Fail> {
     Ok(())
 }
 
-/// Whether the pool answers this reader both systems, as in a thread. `blank` is one of the ledger `L`
-/// (`name`, `parts`), and starts a counter of steps of its own.
+/// What a thread does in a test: whether this reader, which it owns, obtains both systems from the pool. `blank`
+/// is one of the ledger `L` (`name`, `parts`), and starts the thread's own counter of steps.
 fn works<R: Wait, L: Ledger>(
     rt: &R,
     alloc: Global,
@@ -221,7 +222,8 @@ fn works<R: Wait, L: Ledger>(
     obtains_both(rt, alloc, pool, &mut reader, trade, &mut steps)
 }
 
-/// Whether the pool answers this reader both systems, without a counter that a caller has to start.
+/// What a thread does in a test, with a blank that it makes for its counter: whether this reader obtains both
+/// systems from the pool.
 fn works_alone<R: Wait>(rt: &R, alloc: Global, pool: &Pool, reader: Reader, trade: &Trade) -> bool
     requires edits { pool.now.edits ≡ arc_value trade.now.edits }
     requires reader { IsReaderOf pool.now reader }
@@ -229,7 +231,7 @@ fn works_alone<R: Wait>(rt: &R, alloc: Global, pool: &Pool, reader: Reader, trad
     works::<R, Brand>(rt, alloc, pool, reader, trade, Blank::new(1))
 }
 
-/// Whether two threads that share a pool are both answered both systems.
+/// Whether two threads that share a pool, each with a reader of its own, both obtain both systems.
 fn work_side_by_side<R: Threads + Wait + Sync>(rt: &R, alloc: Global) -> Result<bool, Fail> {
     let trade = read_trade(alloc)?;
     let pool = pool_of(alloc, &trade.edits)?;

@@ -1,4 +1,5 @@
-//! The steps that are written of the boxes and lines of a path, where two boxes come from one line.
+//! A test of the steps that are written for a path's last box, where two boxes come from one line. A level is a
+//! list of lines or boxes that was derived from the level before it. A step is named by its place, from 0.
 ghost use Rattle.std.specs.Prelude.{◌≡◌, ◌<◌, ◌∷◌, [], IfOk};
 ghost use Rattle.std.specs.Arc.{arc_value};
 ghost use Rattle.edit_line.specs.Shapes.{Numerical, domain_of, shape_of};
@@ -15,7 +16,7 @@ use std::sync::Arc;
 use std::sync::ledger::{Blank, Ledger};
 use std::test::Fail;
 
-// A survey of one numerical field, and no rule.
+// A survey of one numerical field, Costs, and no rule. A want of memory ends the test.
 fn survey_of_one(alloc: Global) -> Result<Survey, Fail>
     ensures { IfOk result (λ survey. shape_of survey.fields ≡ Numerical ∷ []) }
 {
@@ -33,7 +34,7 @@ fn survey_of_one(alloc: Global) -> Result<Survey, Fail>
     )
 }
 
-// The edit that the survey's one field is not below 0, numbered `number`.
+// The edits of one line alone, numbered `number`: the survey's one field is not below 0.
 fn edit(alloc: Global, survey: &Survey, number: u32) -> Result<Arc<Edits>, Fail>
     requires { shape_of survey.now.fields ≡ Numerical ∷ [] }
     ensures { IfOk result (λ edits. (arc_value edits).shape ≡ Numerical ∷ []) }
@@ -51,9 +52,9 @@ fn edit(alloc: Global, survey: &Survey, number: u32) -> Result<Arc<Edits>, Fail>
     Ok(Arc::new(alloc, edits)?)
 }
 
-// The derived system of the edits in which no field is eliminated: their lines, reduced. `blank` starts a
-// counter of steps, which nobody reads. It is one of the ledger `L`: it has its name and its number of
-// parts.
+// The derived system of the edits that elimination starts from: no field is gone, and the lines are reduced.
+// `blank` starts a counter of steps, which nobody reads. It is one of the ledger `L`: it has its name and its
+// number of parts.
 fn lines<L: Ledger>(alloc: Global, edits: &Arc<Edits>, blank: Blank) -> Result<Held, Fail>
     requires name { blank.name ≡ L.name }
     requires parts { blank.parts ≡ L.parts }
@@ -68,14 +69,14 @@ fn lines<L: Ledger>(alloc: Global, edits: &Arc<Edits>, blank: Blank) -> Result<H
     )
 }
 
-// The derived system of the edits in which no field is eliminated, without a counter that a caller has to
-// start.
+// The derived system of the edits that elimination starts from. The blank for its counter of steps is made
+// here, so that a test needs none.
 fn lines_alone(alloc: Global, edits: &Arc<Edits>) -> Result<Held, Fail> {
     lines::<Brand>(alloc, edits, Blank::new(1))
 }
 
-// The boxes of these origins, as a level of the path on which this field was treated. The survey has no
-// categorical field, so that the boxes have no sets.
+// The level of boxes of these origins, made when this field was treated. The survey has no categorical field, so
+// the boxes have no sets: only how they were made counts.
 fn boxes(alloc: Global, survey: &Survey, field: u32, origins: Vec<BoxOrigin>) -> Result<Level, Fail>
     requires { shape_of survey.now.fields ≡ Numerical ∷ [] }
 {
@@ -90,8 +91,8 @@ fn boxes(alloc: Global, survey: &Survey, field: u32, origins: Vec<BoxOrigin>) ->
     })
 }
 
-// The levels of a path, from the first on. They are a line, two boxes of it, then a box made whole and a
-// cover of both, and last that cover unchanged.
+// The levels of the test's path, from the first on. They are a line, and two boxes of it. Then come a box fixed
+// at a field and a cover of both boxes, and last that cover unchanged.
 fn levels(alloc: Global, survey: &Survey) -> Result<Vec<Level>, Fail>
     requires { shape_of survey.now.fields ≡ Numerical ∷ [] }
 {
@@ -108,8 +109,8 @@ fn levels(alloc: Global, survey: &Survey) -> Result<Vec<Level>, Fail>
     ]?)
 }
 
-// Two boxes are of one failing line: its edit, 7, is given once, and the cover names the two boxes by the
-// places of their steps.
+// Two boxes come from one failing line. Its edit, number 7, is given once. The cover names the two boxes by the
+// places of their steps, in the order of its parts.
 #[test]
 fn a_line_that_two_boxes_come_from_is_given_once(rt: HostRuntime) -> Result<(), Fail> {
     let alloc = rt.alloc();
