@@ -15,7 +15,7 @@ ghost use Rattle.bound_cert.specs.declared.cert.LeafWhy.{LeafWhy};
 ghost use Rattle.bound_cert.specs.declared.verdict.Verdict.{Verdict};
 
 use crate::cert::{Leaf, LeafWhy};
-use crate::order::{all_changed, may_stand, path_before};
+use crate::order::{changes_all, may_stand, path_before};
 use crate::path::Path;
 use crate::task::Task;
 use crate::verdict::Verdict;
@@ -60,7 +60,7 @@ fn is_right(survey: &Survey, before: Option<&[bool]>, path: &[bool], last: bool)
 fn may_end(path: &[bool], last: bool) -> bool
     ensures { result ≡ (if last then all_changed path.now else true) }
 {
-    if last { all_changed(path) } else { true }
+    if last { changes_all(path) } else { true }
 }
 
 // What is found of a leaf whose path is right: whether its reason holds. Where steps are its reason and one

@@ -9,14 +9,14 @@ ghost use Rattle.bound_cert.specs.Trees.{comes_next, may_stand};
 use crate::cert::Leaf;
 
 /// Whether the path keeps all its fields, as the empty path does. No memory.
-pub(crate) fn all_kept(path: &[bool]) -> bool
+pub(crate) fn keeps_all(path: &[bool]) -> bool
     ensures { result ≡ all_kept path.now }
 {
     path.iter().all(|changed| !*changed)
 }
 
 /// Whether the path changes all its fields, as the empty path does. No memory.
-pub(crate) fn all_changed(path: &[bool]) -> bool
+pub(crate) fn changes_all(path: &[bool]) -> bool
     ensures { result ≡ all_changed path.now }
 {
     path.iter().all(|changed| *changed)
@@ -44,7 +44,7 @@ pub(crate) fn comes_next(first: &[bool], second: &[bool]) -> bool
 fn ends_and_begins(first: &[bool], second: &[bool]) -> bool
     ensures { result ≡ (all_changed first.now && all_kept second.now) }
 {
-    all_changed(first) && all_kept(second)
+    changes_all(first) && keeps_all(second)
 }
 
 /// Whether the path may stand right behind the path before. The first of all, for which `before` is None,
@@ -53,7 +53,7 @@ pub(crate) fn may_stand(before: Option<&[bool]>, path: &[bool]) -> bool
     ensures { result ≡ may_stand (option_map (λ b. b.now) before.entry) path.now }
 {
     match before {
-        None => all_kept(path),
+        None => keeps_all(path),
         Some(before) => comes_next(before, path),
     }
 }
