@@ -77,7 +77,7 @@ fn look_at_changed(
         Covered::Passed => Ok(None),
         Covered::Done { boxes, pairs } => Ok(Some(Look {
             work: 1 + pairs,
-            state: first_whole(problem, boxes.as_slice()),
+            state: state_by_boxes(problem, boxes.as_slice()),
             basis: Basis::Boxes(Arc::new(alloc, boxes)?),
         })),
     }
@@ -104,7 +104,7 @@ fn look_at_kept(
             let boxes = fix_apart(alloc, before, field, *code)?;
             Ok(Look {
                 work: 1,
-                state: first_whole(problem, boxes.as_slice()),
+                state: state_by_boxes(problem, boxes.as_slice()),
                 basis: Basis::Boxes(Arc::new(alloc, Sequence::from_vec(boxes))?),
             })
         }
@@ -118,7 +118,7 @@ fn look_at_kept(
 
 // The state of a path with these boxes. The first box that has all codes of each field closes it, as no codes
 // are left. Without such a box it is open.
-fn first_whole(problem: &Problem, boxes: &[BoxFrom]) -> PathState
+fn state_by_boxes(problem: &Problem, boxes: &[BoxFrom]) -> PathState
     requires problem { IsProblem problem.now }
     ensures { result ≡ whole_state (case_in problem.now) boxes.now }
 {

@@ -30,7 +30,7 @@ ghost use Rattle.path_walk.specs.Problems.{IsProblem, case_in, edits_in};
 ghost use Rattle.path_walk.specs.inner.Histories.{AddsSystem, boxes_by};
 
 use crate::looks::Basis;
-use crate::number_paths::{alone, share, system_along};
+use crate::number_paths::{in_arc, share, system_along};
 use crate::problem::{Problem, number_count};
 use categ_combine::{BoxFault, BoxFrom, Covered, boxes_of, fix_apart, step_apart};
 use edit_line::Derived;
@@ -178,7 +178,7 @@ fn own_system<S: Systems, L: Ledger>(
         return Ok(share(system)?);
     }
     match system_along(alloc, source, problem, path.letters, steps) {
-        Ok(held) => Ok(alone(alloc, held)?),
+        Ok(held) => Ok(in_arc(alloc, held)?),
         Err(fault) => Err(fault),
     }
 }

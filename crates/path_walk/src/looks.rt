@@ -48,7 +48,7 @@ impl Basis {
     }
 
     // How many lines or boxes it has, which is the room that it takes. No memory.
-    fn size(&self) -> usize
+    fn element_count(&self) -> usize
         ensures { result ≡ size_of self.now }
     {
         match self {
@@ -73,7 +73,7 @@ impl Look {
     pub fn kept_basis(&self, room: &mut usize) -> Result<Option<Basis>, OutOfMemory>
         ensures { IfOk result (λ kept. IfSome kept (SharesBasis self.now room.old room.new)) }
     {
-        let size = self.basis.size();
+        let size = self.basis.element_count();
         if !has_basis(self.state) || size > *room {
             return Ok(None);
         }

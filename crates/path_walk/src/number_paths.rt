@@ -154,10 +154,10 @@ fn look_at_path<S: Systems, L: Ledger>(
     ensures counts { steps.old ≤ steps.new }
 {
     if at.path.keeps_bad(problem.survey, problem.row) {
-        return ended(work, PathState::ClosedBad, at.before);
+        return look_without_basis(work, PathState::ClosedBad, at.before);
     }
     match next_system(alloc, source, problem, at.path.letters(), at.before, steps) {
-        Ok(next) => tried(alloc, problem, at.path, next, work),
+        Ok(next) => look_by_system(alloc, problem, at.path, next, work),
         Err(
             SystemFault::Overflow {
                 first,
@@ -165,7 +165,7 @@ fn look_at_path<S: Systems, L: Ledger>(
                 place,
                 ..
             },
-        ) => ended(
+        ) => look_without_basis(
             work,
             PathState::Overflows(Event::Step {
                 first,
@@ -180,7 +180,7 @@ fn look_at_path<S: Systems, L: Ledger>(
 
 // The look into a path that has no basis of its own, with its work and state: the search does not go on from
 // it. The `system` at hand stands in the place of a basis, and is not read.
-fn ended(work: u64, state: PathState, system: &Arc<Held>) -> Result<Look, OutOfMemory>
+fn look_without_basis(work: u64, state: PathState, system: &Arc<Held>) -> Result<Look, OutOfMemory>
     ensures work { IfOk result (λ look. look.work ≡ work) }
     ensures state { IfOk result (λ look. look.state ≡ state) }
 {
@@ -217,7 +217,7 @@ fn next_system<S: Systems, L: Ledger>(
         return Ok(share(before)?);
     }
     match changed_system(alloc, source, problem, letters, before.system(), steps) {
-        Ok(held) => Ok(alone(alloc, held)?),
+        Ok(held) => Ok(in_arc(alloc, held)?),
         Err(fault) => Err(fault),
     }
 }
@@ -258,7 +258,7 @@ pub(crate) fn share(system: &Arc<Held>) -> Result<Arc<Held>, OutOfMemory>
 }
 
 /// The system, put into an `Arc`, so that several can own it.
-pub(crate) fn alone(alloc: Global, held: Held) -> Result<Arc<Held>, OutOfMemory>
+pub(crate) fn in_arc(alloc: Global, held: Held) -> Result<Arc<Held>, OutOfMemory>
     ensures { IfOk result (λ system. arc_value system ≡ held) }
 {
     Ok(Arc::new(alloc, held)?)
@@ -267,7 +267,7 @@ pub(crate) fn alone(alloc: Global, held: Held) -> Result<Arc<Held>, OutOfMemory>
 // The look into a path that keeps no field without a value, by its own `system`. Where the path says
 // something of all numerical fields, its boxes are its basis. A line's sum that leaves the range while
 // these are made is an overflow.
-fn tried(
+fn look_by_system(
     alloc: Global,
     problem: &Problem,
     path: &Path,
@@ -298,7 +298,7 @@ fn tried(
             state: first_failing(problem, path, lines),
             basis: Basis::Boxes(Arc::new(alloc, Sequence::from_vec(boxes))?),
         }),
-        Err(BoxFault::Overflow { line, field }) => ended(
+        Err(BoxFault::Overflow { line, field }) => look_without_basis(
             work,
             PathState::Overflows(Event::Test { line, field }),
             &system,

@@ -21,8 +21,8 @@ returns-in_ok-new-in-Code-clause-look c =
     let boxes = c.in_ok-boxes-in-Code.ensures.exact (shape_of c.args.problem.now.survey.now.fields) c.requires.over
     (row-code (case_in c.args.problem.now) c.requires.problem.case c.args.field c.in-Code.code (sym c.value.ensures ∙ c.in-Code.is)) in
     subst (λ (v : Value). IsKept (case_in c.args.problem.now) c.args.before.now c.args.field v
-    (record { work = 1; state = c.first_whole.result; basis = Boxes c.in_ok-new-in-Code.field-0 })) (sym (sym c.value.ensures ∙ c.in-Code.is)) (
+    (record { work = 1; state = c.state_by_boxes.result; basis = Boxes c.in_ok-new-in-Code.field-0 })) (sym (sym c.value.ensures ∙ c.in-Code.is)) (
       c.in_ok-new-in-Code.ensures.ok ∙ c.from_vec.ensures ∙ boxes,
-      c.first_whole.ensures
+      c.state_by_boxes.ensures
           ∙ ap (λ bs. whole_state (case_in c.args.problem.now) bs) (c.as_slice.ensures.value ∙ boxes),
     )

@@ -2,7 +2,7 @@ use Rattle.std.proofs.Common.{◌≤◌, Bool, ℕ, List, length, ◌∙◌, sub
 use Rattle.edit_paths.proofs.KeptLines.{all-over}
 use Rattle.path_walk.specs.Problems.{case_in}
 use Rattle.path_walk.proofs.NumberPathLaws.{lines-made, numbers-boxes}
-use Rattle.path_walk.proofs.number_paths.tried.Goals as goal
+use Rattle.path_walk.proofs.number_paths.look_by_system.Goals as goal
 
 pub boxes_of-requires-clause-shape : goal.boxes_of-requires-clause-shape
 boxes_of-requires-clause-shape c =
