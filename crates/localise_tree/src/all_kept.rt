@@ -54,7 +54,7 @@ pub(crate) fn find_unchanged<S: Systems, L: Ledger>(
         return Ok(None);
     }
     ask_for_start(alloc, source, task.edits, steps)?;
-    Ok(Some(all_kept(alloc, task.survey.fields().len())?))
+    Ok(Some(unchanged_outcome(alloc, task.survey.fields().len())?))
 }
 
 // Asks the source for the system of no field, and throws it away: so the source keeps it, as `localise`
@@ -79,7 +79,7 @@ fn ask_for_start<S: Systems, L: Ledger>(
 
 // The outcome that changes none of `count` fields, and weighs 0. Its certificate is one leaf, of the empty
 // path: no correction weighs less than 0.
-fn all_kept(alloc: Global, count: usize) -> Result<Outcome, OutOfMemory>
+fn unchanged_outcome(alloc: Global, count: usize) -> Result<Outcome, OutOfMemory>
     ensures { IfOk result (λ o. o ≡ all_kept count) }
 {
     let path = Path::new(vec![in alloc; false; count]?);
@@ -132,7 +132,7 @@ fn holds_at(survey: &Survey, line: &Line, row: &Row) -> bool
     ensures { result ≡ holds_at row.now line.now }
 {
     match fails(survey, line, row) {
-        Ok(true) => !is_for(survey.codes(), line.sets(), row),
+        Ok(true) => !are_codes_in_sets(survey.codes(), line.sets(), row),
         Ok(false) => true,
         Err(_) => false,
     }
@@ -141,7 +141,7 @@ fn holds_at(survey: &Survey, line: &Line, row: &Row) -> bool
 // Whether the record's code at each of the fields is in that field's set, so that a line with these sets asks
 // something of it. A value that is no code counts as code 0. `sets` has one set for each of `fields`.
 #[tactic(auto, using(crate::proofs::CodeTests::codes_more, crate::proofs::CodeTests::codes_past))]
-fn is_for(fields: &[u32], sets: &[u64], row: &Row) -> bool
+fn are_codes_in_sets(fields: &[u32], sets: &[u64], row: &Row) -> bool
     requires count { length sets.now ≡ length fields.now }
     requires places { All (λ f. f < length row.now) fields.now }
     ensures { result ≡ are_codes_in sets.now (codes_of_row fields.now row.now) }

@@ -11,7 +11,7 @@ pub returns-clause-exact : goal.returns-clause-exact
 returns-clause-exact g c =
     let enough : length c.args.task.now.survey.now.fields < c.args.task.now.budget = search rules in
     let holds : holds_throughout (case_of c.args.task.now.survey.now (arc_value c.args.task.now.edits.now) c.args.task.now.row.now) ≡ true = search rules in
-    c.in_ok-all_kept.ensures ∙ ap (λ (fs : List Field). all_kept (length fs)) c.fields-2.ensures.fields
+    c.in_ok-unchanged_outcome.ensures ∙ ap (λ (fs : List Field). all_kept (length fs)) c.fields-2.ensures.fields
     ∙ kept-outcome (case_of c.args.task.now.survey.now (arc_value c.args.task.now.edits.now) c.args.task.now.row.now) c.args.task.now.budget enough
     (kept-open (case_of c.args.task.now.survey.now (arc_value c.args.task.now.edits.now) c.args.task.now.row.now) c.case_known.ensures.case holds)
 
@@ -19,5 +19,5 @@ pub returns-clause-kept : goal.returns-clause-kept
 returns-clause-kept g c =
     keeps-start (g.S.Systems.keeps c.ask_for_start.new.source)
     (case_of c.args.task.now.survey.now (arc_value c.args.task.now.edits.now) c.args.task.now.row.now) (length c.fields-2.result.now)
-    c.in_ok-all_kept.field-0
-    c.in_ok-all_kept.ensures c.in_ok-ask_for_start.ensures.kept
+    c.in_ok-unchanged_outcome.field-0
+    c.in_ok-unchanged_outcome.ensures c.in_ok-ask_for_start.ensures.kept
