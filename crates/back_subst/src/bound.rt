@@ -97,13 +97,13 @@ impl Bound {
     {
         match other {
             Some(other) => self.at.middle(other.at),
-            None => self.at.add(inward(lower)),
+            None => self.at.add(step_inward(lower)),
         }
     }
 }
 
 /// The number that is added to a bound to come 1 further in: 1 for a lower bound, -1 for an upper one.
-fn inward(lower: bool) -> Fraction
+fn step_inward(lower: bool) -> Fraction
     ensures { ratio_of result ≡ whole (side_of lower) }
 {
     if lower {

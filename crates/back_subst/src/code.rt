@@ -46,7 +46,7 @@ pub(crate) fn code_for(
         Err(BoxFault::Overflow { .. }) => unreachable!(),
     };
     let settled = settle_others(alloc, survey, boxes, row, field)?;
-    Ok(first_free(survey, &settled, field, target))
+    Ok(free_code(survey, &settled, field, target))
 }
 
 // The boxes that are left when each categorical field other than `but` is fixed at the record's code, or
@@ -104,7 +104,7 @@ fn settle_field(
 
 // The code that is given to the field, whose forbidden codes the boxes have. It is the target, where that is
 // one of the field's codes and in no box, and else the first code in none. There is such a code.
-fn first_free(survey: &Survey, boxes: &[BoxFrom], field: u32, target: u8) -> u8
+fn free_code(survey: &Survey, boxes: &[BoxFrom], field: u32, target: u8) -> u8
     requires over { AreBoxesOver (shape_of survey.now.fields) boxes.now }
     requires field { IsCategorical (shape_of survey.now.fields) field }
     requires some { (code : ℕ) × IsFree (shape_of survey.now.fields) (sets_of boxes.now) field code }
@@ -115,7 +115,7 @@ fn first_free(survey: &Survey, boxes: &[BoxFrom], field: u32, target: u8) -> u8
     if target < size && is_free(boxes, place, target) {
         return target;
     }
-    match first_among(boxes, place, size) {
+    match first_free_code(boxes, place, size) {
         Some(code) => code,
         None => unreachable!(),
     }
@@ -123,7 +123,7 @@ fn first_free(survey: &Survey, boxes: &[BoxFrom], field: u32, target: u8) -> u8
 
 /// The first of the codes below `size`, the field's count of codes, that no box has at this field. None where
 /// each is in some box. `place` is the field's place among the categorical ones, from 0.
-pub(crate) fn first_among(boxes: &[BoxFrom], place: usize, size: u8) -> Option<u8>
+pub(crate) fn first_free_code(boxes: &[BoxFrom], place: usize, size: u8) -> Option<u8>
     requires { (shape : List Domain) × AreBoxesOver shape boxes.now × (place < length (code_fields shape)) }
     ensures free { IfSome result (λ code. IsFirstFree (sets_of boxes.now) place size code) }
     ensures none { IfNone result ((c : ℕ) → c < size → is_free_at (sets_of boxes.now) place c ≡ false) }

@@ -13,7 +13,7 @@ use std::cmp::Ordering;
 
 /// How the value at each field of the set `changed` was found: one `How` for each, in path order, told with a
 /// gift. `row` is the record with these values, and `donor` the record that they were first taken from.
-pub(crate) fn hows(
+pub(crate) fn how_of_each(
     alloc: Global,
     survey: &Survey,
     changed: FieldSet,

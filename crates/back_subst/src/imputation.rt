@@ -18,7 +18,7 @@ use crate::blank::blank_fields;
 use crate::final_test::test_rules;
 use crate::gift::{Gift, GiveFault};
 use crate::giving::{give_codes, give_numbers};
-use crate::how::hows;
+use crate::how::how_of_each;
 use crate::order::{chosen_backwards, set_of};
 use crate::task::Task;
 use edit_line::Edits;
@@ -76,7 +76,7 @@ pub fn give<S: Systems, L: Ledger>(
         Ok(new) => new,
         Err(fault) => return Err(fault),
     };
-    match hows(alloc, survey, changed, donor, &new) {
+    match how_of_each(alloc, survey, changed, donor, &new) {
         Ok(how) => Ok(Gift {
             row: new,
             how: Sequence::from_vec(how),

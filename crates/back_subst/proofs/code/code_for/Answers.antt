@@ -16,8 +16,8 @@ settle_others-requires-clause-few c =
           (sym (same-boxes _ _ _ c.in-Ok.ensures.sets made)) few,
     )
 
-pub first_free-requires-clause-some : goal.first_free-requires-clause-some
-first_free-requires-clause-some c =
+pub free_code-requires-clause-some : goal.free_code-requires-clause-some
+free_code-requires-clause-some c =
     let (left, blank, boxes, made, few, (code, free)) = c.requires.some in
     let same : sets_of c.in-Ok.boxes.items ≡ boxes = same-boxes _ _ _ c.in-Ok.ensures.sets made in (
       code,
@@ -30,6 +30,6 @@ pub returns : goal.returns
 returns c = (
   sets_of c.in-Ok.boxes.items,
   c.in-Ok.ensures.sets,
-  λ left blank. subst (λ (bs : List (List ℕ)). IsGivenCode (IsFree (shape_of c.args.survey.now.fields) bs c.args.field) c.args.target c.first_free.result)
-      (ap (λ (bs : List BoxFrom). sets_of bs) c.deref.ensures.value ∙ c.in_ok-settled.ensures.sets left blank) c.first_free.ensures,
+  λ left blank. subst (λ (bs : List (List ℕ)). IsGivenCode (IsFree (shape_of c.args.survey.now.fields) bs c.args.field) c.args.target c.free_code.result)
+      (ap (λ (bs : List BoxFrom). sets_of bs) c.deref.ensures.value ∙ c.in_ok-settled.ensures.sets left blank) c.free_code.ensures,
 )

@@ -8,21 +8,21 @@ use Rattle.back_subst.proofs.ReadyLaws.{over}
 use Rattle.back_subst.proofs.StartLaws.{in-order}
 use Rattle.back_subst.proofs.imputation.give.Goals as goal
 
-pub returns-in-Ok-hows-clause-imputed : goal.returns-in-Ok-hows-clause-imputed
-returns-in-Ok-hows-clause-imputed g c =
+pub returns-in-Ok-how_of_each-clause-imputed : goal.returns-in-Ok-how_of_each-clause-imputed
+returns-in-Ok-how_of_each-clause-imputed g c =
     imputed-from c.args.survey.now c.args.row.now c.args.changed (option_copied c.args.donor) (start_lines (arc_value c.args.edits.now)) c.in-Ok.new
     c.in-Ok.ensures.given
 
-pub returns-in-Ok-hows-clause-differs : goal.returns-in-Ok-hows-clause-differs
-returns-in-Ok-hows-clause-differs g c =
+pub returns-in-Ok-how_of_each-clause-differs : goal.returns-in-Ok-how_of_each-clause-differs
+returns-in-Ok-how_of_each-clause-differs g c =
     gift-differs c.args.survey.now c.args.row.now c.in-Ok.new c.args.changed (option_copied c.args.donor) c.case_known.ensures.case.fields
     c.requires.path.is_row
     (in-order c.args.survey.now.fields)
     (imputed-from c.args.survey.now c.args.row.now c.args.changed (option_copied c.args.donor) (start_lines (arc_value c.args.edits.now)) c.in-Ok.new
     c.in-Ok.ensures.given)
 
-pub returns-in-Ok-hows-clause-due : goal.returns-in-Ok-hows-clause-due
-returns-in-Ok-hows-clause-due g c = λ due shown.
+pub returns-in-Ok-how_of_each-clause-due : goal.returns-in-Ok-how_of_each-clause-due
+returns-in-Ok-how_of_each-clause-due g c = λ due shown.
     let survey = c.args.survey.now in
     let e = arc_value c.args.edits.now in
     let imputed = imputed-from survey c.args.row.now c.args.changed (option_copied c.args.donor) (start_lines e) c.in-Ok.new c.in-Ok.ensures.given in

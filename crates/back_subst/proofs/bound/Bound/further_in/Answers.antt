@@ -12,6 +12,6 @@ returns-in-Some c =
 
 pub returns-in-None : goal.returns-in-None
 returns-in-None c =
-    added-answered c.args.self.at c.inward.result c.add.result c.add.ensures.value c.add.ensures.fits c.add.ensures.overflow
-    ∙ ap (λ y. added (ratio_of c.args.self.at) y) c.inward.ensures
+    added-answered c.args.self.at c.step_inward.result c.add.result c.add.ensures.value c.add.ensures.fits c.add.ensures.overflow
+    ∙ ap (λ y. added (ratio_of c.args.self.at) y) c.step_inward.ensures
     ∙ ap (λ (o : Option Bound). step_in (side_of c.args.lower) (ratio_of c.args.self.at) (found_any o)) (sym c.in-None.is)

@@ -4,7 +4,7 @@ use Rattle.edit_model.specs.Corrections.{path_order}
 use Rattle.edit_model.specs.FieldSets.{has_number}
 use Rattle.edit_model.specs.Rows.{value_of}
 use Rattle.back_subst.specs.Gifts.{how_of}
-use Rattle.back_subst.proofs.how.hows.Given as goal
+use Rattle.back_subst.proofs.how.how_of_each.Given as goal
 
 abbrev pub invariant-loop-place : goal.invariant-loop-place
 invariant-loop-place l =

@@ -5,9 +5,9 @@ use Rattle.edit_line.proofs.ShapeLaws.{place-within, same_codes}
 use Rattle.categ_combine.specs.BoxLists.{sets_of}
 use Rattle.back_subst.specs.inner.Codes.{is_free_at}
 use Rattle.back_subst.proofs.CodeSteps.{none-free, some-given, target-free}
-use Rattle.back_subst.proofs.code.first_free.Goals as goal
-use Rattle.back_subst.proofs.code.first_free.Goals.{After-first_among, After-place_among-place, else-target-size-via-then-target-size+else-is_free}
-use Rattle.back_subst.proofs.code.first_free.Goals.{else-target-size-via-else-target-size}
+use Rattle.back_subst.proofs.code.free_code.Goals as goal
+use Rattle.back_subst.proofs.code.free_code.Goals.{After-first_free_code, After-place_among-place, else-target-size-via-then-target-size+else-is_free}
+use Rattle.back_subst.proofs.code.free_code.Goals.{else-target-size-via-else-target-size}
 
 module _ (c : After-place_among-place) where
   place-is : c.place_among-place.result ≡ place_of (shape_of c.args.survey.now.fields) c.args.field
@@ -30,10 +30,10 @@ returns-then-is_free c =
     target-free (shape_of c.args.survey.now.fields) (sets_of c.args.boxes.now) c.args.field c.args.target c.size_of-size.result c.place_among-place.result
     (size-is at) (place-is at) c.if-target-size.true (sym c.if-is_free.ensures)
 
-pub first_among-requires : goal.first_among-requires
-first_among-requires c = (shape_of c.args.survey.now.fields, c.requires.over, place-below (goal.at.first_among-requires c).After-place_among-place)
+pub first_free_code-requires : goal.first_free_code-requires
+first_free_code-requires c = (shape_of c.args.survey.now.fields, c.requires.over, place-below (goal.at.first_free_code-requires c).After-place_among-place)
 
-module _ (c : After-first_among) where
+module _ (c : After-first_free_code) where
   out : (c.args.target < c.size_of-size.result) → is_free_at (sets_of c.args.boxes.now) c.place_among-place.result c.args.target ≡ false
   out = elim c.else-target-size.branch [
     | else-target-size-via-then-target-size+else-is_free w ↦ λ below. sym w.if-is_free.ensures
@@ -44,10 +44,11 @@ pub returns : goal.returns
 returns c =
     let at = (goal.at.returns c).After-place_among-place in
     some-given (shape_of c.args.survey.now.fields) (sets_of c.args.boxes.now) c.args.field c.args.target c.size_of-size.result c.place_among-place.result
-    (size-is at) (place-is at) (out (goal.at.returns c).After-first_among) c.first_among.result c.first_among.ensures.free c.in-Some.code c.in-Some.is
+    (size-is at) (place-is at) (out (goal.at.returns c).After-first_free_code) c.first_free_code.result c.first_free_code.ensures.free c.in-Some.code
+    c.in-Some.is
 
 pub unreachable-requires : goal.unreachable-requires
 unreachable-requires c =
     let at = (goal.at.unreachable-requires c).After-place_among-place in
     none-free (shape_of c.args.survey.now.fields) (sets_of c.args.boxes.now) c.args.field c.args.target c.size_of-size.result c.place_among-place.result
-    (size-is at) (place-is at) c.requires.some c.first_among.result c.first_among.ensures.none c.in-None.is
+    (size-is at) (place-is at) c.requires.some c.first_free_code.result c.first_free_code.ensures.none c.in-None.is

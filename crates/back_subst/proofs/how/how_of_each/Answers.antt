@@ -10,8 +10,8 @@ use Rattle.back_subst.specs.Gifts.{how_of}
 use Rattle.back_subst.specs.declared.gift.How.{How}
 use Rattle.back_subst.proofs.HowLaws.{told-all, told-more, told-same}
 use Rattle.back_subst.proofs.UnderWayLaws.{donor-within}
-use Rattle.back_subst.proofs.how.hows.Goals as goal
-use Rattle.back_subst.proofs.how.hows.Goals.{then-has+in_ok-push, else-has}
+use Rattle.back_subst.proofs.how.how_of_each.Goals as goal
+use Rattle.back_subst.proofs.how.how_of_each.Goals.{then-has+in_ok-push, else-has}
 
 pub value-requires : goal.value-requires
 value-requires c = omega (arith, c.path_field-field.ensures.within, row-length c.args.survey.now.fields c.args.row.now c.requires.row)
