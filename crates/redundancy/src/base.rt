@@ -49,13 +49,13 @@ fn push_usable(
     ensures lines { All IsLine (lines_of base.new.items) }
 {
     for (i, line) in lines.iter().enumerate() {
-        push_if(alloc, base, usable[i], first + i as u64, line)?;
+        push_if_usable(alloc, base, usable[i], first + i as u64, line)?;
     }
     Ok(())
 }
 
 // Appends the line with this number as its origin, where `usable` is true; else it appends nothing.
-fn push_if(
+fn push_if_usable(
     alloc: Global,
     base: &mut Vec<Derived>,
     usable: bool,

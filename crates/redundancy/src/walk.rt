@@ -110,7 +110,7 @@ fn number_turn(
     ensures few { IfOk result (λ told. IfNone told (walk.new.spent ≤ budget)) }
 {
     if let Some(place) = closing_line(wholes, &walk.lines) {
-        return Ok(Some(dropped(alloc, &walk.history, place)?));
+        return Ok(Some(dropping_verdict(alloc, &walk.history, place)?));
     }
     let pairs = pairs(&walk.lines, field);
     if pairs >= u128::from(budget - walk.spent) {
@@ -196,7 +196,7 @@ fn verdict_with_boxes(
         ≡ box_walk (shape_of survey.now.fields) budget walk.spent walk.history walk.lines.items (Ok boxes.items)) }
 {
     if let Some(place) = closing_line(wholes, &walk.lines) {
-        return dropped(alloc, &walk.history, place);
+        return dropping_verdict(alloc, &walk.history, place);
     }
     let mut history = walk.history;
     history.add_boxes(alloc, 0, &boxes)?;
@@ -273,7 +273,7 @@ fn closed_by_box(
     ensures { IfOk result (λ told. told ≡ ended_by walk.now.history (closing_box wholes.now walk.now.boxes.items) None) }
 {
     match closing_box(wholes, &walk.boxes) {
-        Some(place) => Ok(Some(dropped(alloc, &walk.history, place)?)),
+        Some(place) => Ok(Some(dropping_verdict(alloc, &walk.history, place)?)),
         None => Ok(None),
     }
 }
@@ -288,7 +288,7 @@ fn closing_box(wholes: &[u64], boxes: &[BoxFrom]) -> Option<usize>
 
 // The verdict that drops the line that is tried. It comes with the steps that prove the absurd line or box at
 // this place of the last list.
-fn dropped(alloc: Global, history: &History, place: usize) -> Result<Verdict, OutOfMemory>
+fn dropping_verdict(alloc: Global, history: &History, place: usize) -> Result<Verdict, OutOfMemory>
     ensures { IfOk result (λ verdict. verdict ≡ Dropped (steps_to history.now place)) }
 {
     Ok(Verdict::Dropped(write_steps(alloc, history, place as u64)?))
