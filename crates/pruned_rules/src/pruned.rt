@@ -74,13 +74,13 @@ fn kept_of(
 {
     let mut kept = Vec::new(alloc);
     for (place, line) in lines.iter().enumerate() {
-        push_kept(alloc, &mut kept, place as u32, line, &verdicts[place])?;
+        push_if_kept(alloc, &mut kept, place as u32, line, &verdicts[place])?;
     }
     Ok(kept)
 }
 
 // Appends a copy of the line with its number, where the verdict keeps it; else it appends nothing.
-fn push_kept(
+fn push_if_kept(
     alloc: Global,
     kept: &mut Vec<(u32, Line)>,
     number: u32,
