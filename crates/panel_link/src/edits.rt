@@ -33,13 +33,13 @@ pub(crate) fn linked_edits(
     ensures { IfOk result (λ edits. arc_value edits ≡ linked_edits survey.now row.now fixed) }
 {
     let _fields = survey.fields(); // read for what it says: they are in form
-    let mut all = placed(alloc, lines)?;
+    let mut all = numbered_lines(alloc, lines)?;
     push_pins(alloc, survey, row, fixed, &mut all)?;
     Ok(Arc::new(alloc, Edits::new(alloc, survey, all)?)?)
 }
 
 // Copies of the lines of the rules, in order, each with its place, from 0, as its number.
-fn placed(alloc: Global, lines: &[RuleLine]) -> Result<Vec<(u32, Line)>, OutOfMemory>
+fn numbered_lines(alloc: Global, lines: &[RuleLine]) -> Result<Vec<(u32, Line)>, OutOfMemory>
     requires { length lines.now ≤ 1000 }
     ensures { IfOk result (λ placed. placed.items ≡ placed_from 0 (map (λ l. l.line) lines.now)) }
 {

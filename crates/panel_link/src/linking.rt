@@ -147,16 +147,16 @@ fn with_values<L: Ledger>(
             gift,
         }),
         Err(GiveFault::Bound { field, line }) => {
-            Ok(stopped(change, GiftFault::Bound { field, line }))
+            Ok(stopped_answer(change, GiftFault::Bound { field, line }))
         }
-        Err(GiveFault::Test { rule }) => Ok(stopped(change, GiftFault::Test { rule })),
+        Err(GiveFault::Test { rule }) => Ok(stopped_answer(change, GiftFault::Test { rule })),
         Err(GiveFault::OutOfMemory) => Err(OutOfMemory),
     }
 }
 
 // The answer for a change that was found, and whose fields are given no values, with the fault at which the
 // giving stops.
-fn stopped(change: Change, fault: GiftFault) -> Linked
+fn stopped_answer(change: Change, fault: GiftFault) -> Linked
     ensures { result ≡ linked.Stopped (record {
       outcome = outcome.Change change.path change.weight change.cert;
       gift = Some fault;

@@ -115,7 +115,7 @@ fn push_code_pin(
 {
     let shape = Shape::of(survey);
     let mut sets = shape.whole_sets(alloc)?;
-    leave_others(&mut sets, place_among(survey.codes(), field), code);
+    remove_code(&mut sets, place_among(survey.codes(), field), code);
     if have_codes(&sets) {
         let factors = vec![in alloc; 0; survey.numbers().len()]?;
         push_line(
@@ -128,7 +128,7 @@ fn push_code_pin(
 
 // Takes the code out of the set at `place`, so that the other codes are left there. `place` is that of the
 // field among the categorical ones, from 0.
-fn leave_others(sets: &mut Vec<u64>, place: usize, code: u8)
+fn remove_code(sets: &mut Vec<u64>, place: usize, code: u8)
     requires place { place < length sets.old.items }
     requires code { code < 64 }
     ensures { sets.new.items ≡ slice_set sets.old.items place (others_of (slice_index_or sets.old.items place 0) code) }

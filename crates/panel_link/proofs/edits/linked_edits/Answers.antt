@@ -9,8 +9,8 @@ use Rattle.edit_normal.proofs.RuleEditLaws.{placed-edits}
 use Rattle.panel_link.specs.Pins.{linked_lines, pinned}
 use Rattle.panel_link.proofs.edits.linked_edits.Goals as goal
 
-pub placed-requires : goal.placed-requires
-placed-requires c =
+pub numbered_lines-requires : goal.numbered_lines-requires
+numbered_lines-requires c =
     omega (
       arith,
       normal-few c.args.survey.now c.fields-fields.ensures.well_formed,

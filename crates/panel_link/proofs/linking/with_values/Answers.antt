@@ -45,7 +45,7 @@ returns-in-Err-Bound-clause-follows g c = inr (
     fields = c.changed_set-changed.ensures.path ∙ c.letters.ensures;
     stops = c.in-Err-Bound.ensures.bound c.in-Err-Bound.field c.in-Err-Bound.line (ap Err c.in-Err-Bound.field-0-is);
   },
-  c.stopped.ensures,
+  c.stopped_answer.ensures,
 )
 
 pub returns-in-Err-Test-clause-follows : goal.returns-in-Err-Test-clause-follows
@@ -56,5 +56,5 @@ returns-in-Err-Test-clause-follows g c = inr (
     fields = c.changed_set-changed.ensures.path ∙ c.letters.ensures;
     stops = c.in-Err-Test.ensures.test c.in-Err-Test.rule (ap Err c.in-Err-Test.field-0-is);
   },
-  c.stopped-in-Err-Test.ensures,
+  c.stopped_answer-in-Err-Test.ensures,
 )

@@ -1,5 +1,5 @@
 use Rattle.panel_link.proofs.PlacedLines.{placed-few, placed-next}
-use Rattle.panel_link.proofs.edits.placed.Goals as goal
+use Rattle.panel_link.proofs.edits.numbered_lines.Goals as goal
 
 pub push_line-requires : goal.push_line-requires
 push_line-requires c =
