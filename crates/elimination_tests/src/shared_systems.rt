@@ -142,7 +142,7 @@ fn reader_of(alloc: Global, pool: &Pool) -> Result<Reader, Fail>
 /// system. Then the first reader obtains those of both sets, twice, the second time from what it knows. Then
 /// the second reader finds the system without Costs. `blank` is one of the ledger `L` (`name`, `parts`), and
 /// starts the counter of steps.
-fn are_kept<R: Wait, L: Ledger>(rt: &R, alloc: Global, blank: Blank) -> Result<bool, Fail>
+fn keeps_systems<R: Wait, L: Ledger>(rt: &R, alloc: Global, blank: Blank) -> Result<bool, Fail>
     requires name { blank.name ≡ L.name }
     requires parts { blank.parts ≡ L.parts }
     requires counts { 0 < blank.parts }
@@ -167,13 +167,13 @@ fn are_kept<R: Wait, L: Ledger>(rt: &R, alloc: Global, blank: Blank) -> Result<b
 // One reader obtains both systems of the trade survey, and another finds the first of them.
 #[test]
 fn systems_are_kept_for_other_readers(rt: HostRuntime) -> Result<(), Fail> {
-    assert!(rt; are_kept::<HostRuntime, Brand>(&rt, rt.alloc(), Blank::new(1))?);
+    assert!(rt; keeps_systems::<HostRuntime, Brand>(&rt, rt.alloc(), Blank::new(1))?);
     Ok(())
 }
 
 /// Whether the pool stores a system that was made outside of it and is published there, and its reader finds it.
 /// `blank` is one of the ledger `L` (`name`, `parts`), and starts the counter of steps.
-fn is_published<R: Wait, L: Ledger>(rt: &R, alloc: Global, blank: Blank) -> Result<bool, Fail>
+fn publishes_system<R: Wait, L: Ledger>(rt: &R, alloc: Global, blank: Blank) -> Result<bool, Fail>
     requires name { blank.name ≡ L.name }
     requires parts { blank.parts ≡ L.parts }
     requires counts { 0 < blank.parts }
@@ -198,13 +198,13 @@ fn is_published<R: Wait, L: Ledger>(rt: &R, alloc: Global, blank: Blank) -> Resu
 // A system that was made without the pool is published in it, and found there.
 #[test]
 fn a_system_is_published(rt: HostRuntime) -> Result<(), Fail> {
-    assert!(rt; is_published::<HostRuntime, Brand>(&rt, rt.alloc(), Blank::new(1))?);
+    assert!(rt; publishes_system::<HostRuntime, Brand>(&rt, rt.alloc(), Blank::new(1))?);
     Ok(())
 }
 
 /// What a thread does in a test: whether this reader, which it owns, obtains both systems from the pool. `blank`
 /// is one of the ledger `L` (`name`, `parts`), and starts the thread's own counter of steps.
-fn works<R: Wait, L: Ledger>(
+fn thread_obtains<R: Wait, L: Ledger>(
     rt: &R,
     alloc: Global,
     pool: &Pool,
@@ -224,15 +224,21 @@ fn works<R: Wait, L: Ledger>(
 
 /// What a thread does in a test, with a blank that it makes for its counter: whether this reader obtains both
 /// systems from the pool.
-fn works_alone<R: Wait>(rt: &R, alloc: Global, pool: &Pool, reader: Reader, trade: &Trade) -> bool
+fn thread_obtains_uncounted<R: Wait>(
+    rt: &R,
+    alloc: Global,
+    pool: &Pool,
+    reader: Reader,
+    trade: &Trade,
+) -> bool
     requires edits { pool.now.edits ≡ arc_value trade.now.edits }
     requires reader { IsReaderOf pool.now reader }
 {
-    works::<R, Brand>(rt, alloc, pool, reader, trade, Blank::new(1))
+    thread_obtains::<R, Brand>(rt, alloc, pool, reader, trade, Blank::new(1))
 }
 
 /// Whether two threads that share a pool, each with a reader of its own, both obtain both systems.
-fn work_side_by_side<R: Threads + Wait + Sync>(rt: &R, alloc: Global) -> Result<bool, Fail> {
+fn threads_obtain<R: Threads + Wait + Sync>(rt: &R, alloc: Global) -> Result<bool, Fail> {
     let trade = read_trade(alloc)?;
     let pool = pool_of(alloc, &trade.edits)?;
     let first = reader_of(alloc, &pool)?;
@@ -242,10 +248,10 @@ fn work_side_by_side<R: Threads + Wait + Sync>(rt: &R, alloc: Global) -> Result<
         rt,
         move || -> bool
             requires { (shared.now.edits ≡ arc_value edits.now.edits) × IsReaderOf shared.now first }
-        { works_alone(rt, alloc, shared, first, edits) },
+        { thread_obtains_uncounted(rt, alloc, shared, first, edits) },
         move || -> bool
             requires { (shared.now.edits ≡ arc_value edits.now.edits) × IsReaderOf shared.now second }
-        { works_alone(rt, alloc, shared, second, edits) },
+        { thread_obtains_uncounted(rt, alloc, shared, second, edits) },
     );
     Ok(one && other)
 }
@@ -253,6 +259,6 @@ fn work_side_by_side<R: Threads + Wait + Sync>(rt: &R, alloc: Global) -> Result<
 // Two threads, each with a reader of its own, obtain both systems from one pool.
 #[test]
 fn threads_share_a_pool(rt: HostRuntime) -> Result<(), Fail> {
-    assert!(rt; work_side_by_side(&rt, rt.alloc())?);
+    assert!(rt; threads_obtain(&rt, rt.alloc())?);
     Ok(())
 }

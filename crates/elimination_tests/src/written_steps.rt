@@ -35,7 +35,7 @@ fn survey_of_one(alloc: Global) -> Result<Survey, Fail>
 }
 
 // The edits of one line alone, numbered `number`: the survey's one field is not below 0.
-fn edit(alloc: Global, survey: &Survey, number: u32) -> Result<Arc<Edits>, Fail>
+fn edits_of_one_line(alloc: Global, survey: &Survey, number: u32) -> Result<Arc<Edits>, Fail>
     requires { shape_of survey.now.fields ≡ Numerical ∷ [] }
     ensures { IfOk result (λ edits. (arc_value edits).shape ≡ Numerical ∷ []) }
 {
@@ -55,7 +55,7 @@ fn edit(alloc: Global, survey: &Survey, number: u32) -> Result<Arc<Edits>, Fail>
 // The derived system of the edits that elimination starts from: no field is gone, and the lines are reduced.
 // `blank` starts a counter of steps, which nobody reads. It is one of the ledger `L`: it has its name and its
 // number of parts.
-fn lines<L: Ledger>(alloc: Global, edits: &Arc<Edits>, blank: Blank) -> Result<Held, Fail>
+fn start_system<L: Ledger>(alloc: Global, edits: &Arc<Edits>, blank: Blank) -> Result<Held, Fail>
     requires name { blank.name ≡ L.name }
     requires parts { blank.parts ≡ L.parts }
     requires counts { 0 < blank.parts }
@@ -71,13 +71,18 @@ fn lines<L: Ledger>(alloc: Global, edits: &Arc<Edits>, blank: Blank) -> Result<H
 
 // The derived system of the edits that elimination starts from. The blank for its counter of steps is made
 // here, so that a test needs none.
-fn lines_alone(alloc: Global, edits: &Arc<Edits>) -> Result<Held, Fail> {
-    lines::<Brand>(alloc, edits, Blank::new(1))
+fn start_system_uncounted(alloc: Global, edits: &Arc<Edits>) -> Result<Held, Fail> {
+    start_system::<Brand>(alloc, edits, Blank::new(1))
 }
 
 // The level of boxes of these origins, made when this field was treated. The survey has no categorical field, so
 // the boxes have no sets: only how they were made counts.
-fn boxes(alloc: Global, survey: &Survey, field: u32, origins: Vec<BoxOrigin>) -> Result<Level, Fail>
+fn box_level(
+    alloc: Global,
+    survey: &Survey,
+    field: u32,
+    origins: Vec<BoxOrigin>,
+) -> Result<Level, Fail>
     requires { shape_of survey.now.fields ≡ Numerical ∷ [] }
 {
     let mut boxes = Vec::new(alloc);
@@ -93,19 +98,19 @@ fn boxes(alloc: Global, survey: &Survey, field: u32, origins: Vec<BoxOrigin>) ->
 
 // The levels of the test's path, from the first on. They are a line, and two boxes of it. Then come a box fixed
 // at a field and a cover of both boxes, and last that cover unchanged.
-fn levels(alloc: Global, survey: &Survey) -> Result<Vec<Level>, Fail>
+fn test_levels(alloc: Global, survey: &Survey) -> Result<Vec<Level>, Fail>
     requires { shape_of survey.now.fields ≡ Numerical ∷ [] }
 {
-    let given = lines_alone(alloc, &edit(alloc, survey, 7)?)?;
+    let given = start_system_uncounted(alloc, &edits_of_one_line(alloc, survey, 7)?)?;
     let failing = vec![in alloc; BoxOrigin::Failing(0), BoxOrigin::Failing(0)]?;
     let parts = Sequence::from_vec(vec![in alloc; 1, 0, 1]?);
     let cover = vec![in alloc; BoxOrigin::Fixed(0), BoxOrigin::Cover(parts)]?;
     let unchanged = vec![in alloc; BoxOrigin::Unchanged(1)]?;
     Ok(vec![in alloc;
         Level::Lines(Arc::new(alloc, given)?),
-        boxes(alloc, survey, 0, failing)?,
-        boxes(alloc, survey, 1, cover)?,
-        boxes(alloc, survey, 2, unchanged)?,
+        box_level(alloc, survey, 0, failing)?,
+        box_level(alloc, survey, 1, cover)?,
+        box_level(alloc, survey, 2, unchanged)?,
     ]?)
 }
 
@@ -115,7 +120,7 @@ fn levels(alloc: Global, survey: &Survey) -> Result<Vec<Level>, Fail>
 fn a_line_that_two_boxes_come_from_is_given_once(rt: HostRuntime) -> Result<(), Fail> {
     let alloc = rt.alloc();
     let survey = survey_of_one(alloc)?;
-    let steps = write_steps(alloc, &levels(alloc, &survey)?, 0)?;
+    let steps = write_steps(alloc, &test_levels(alloc, &survey)?, 0)?;
     let text = format!(in alloc; "{:?}", steps.as_slice())?;
     assert_eq!(rt;
         text.as_str(),

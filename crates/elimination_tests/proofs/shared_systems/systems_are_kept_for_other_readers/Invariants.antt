@@ -1,4 +1,4 @@
 use Rattle.elimination_tests.proofs.shared_systems.systems_are_kept_for_other_readers.Given as goal
 
-abbrev pub ghosts-are_kept : goal.ghosts-are_kept
-ghosts-are_kept g a = record { name = a.blank.name; parts = a.blank.parts }
+abbrev pub ghosts-keeps_systems : goal.ghosts-keeps_systems
+ghosts-keeps_systems g a = record { name = a.blank.name; parts = a.blank.parts }
