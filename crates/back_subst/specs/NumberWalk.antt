@@ -23,7 +23,7 @@ use Rattle.edit_model.specs.declared.value.Value.TheVariants.{Bad}
 abbrev pub is_bounding : LineParts → List Value → ℕ → Bool
 is_bounding line row f = are_codes_in line.sets (codes_in line.shape row) && not (int_eq (factor line f) (pos 0))
 
--- the line's sum at the record without a field: what a value adds that is no number is nothing
+-- the line's sum at the record without the field, which is set to no value, and so adds nothing
 abbrev pub rest_of : LineParts → List Value → ℕ → Result Ratio ℕ
 rest_of line row f = sum_at line (slice_set row f Bad)
 
@@ -63,7 +63,7 @@ pub record FoundBounds : Type 0 where
 abbrev pub no_bounds : FoundBounds
 no_bounds = record { lower = None; upper = None }
 
--- the bounds, and one more: a lower one where the factor is positive
+-- the bounds, narrowed by one more: a lower one where `lower` is true, else an upper one
 abbrev pub with_found : FoundBounds → Bool → Found → FoundBounds
 with_found ends lower new =
     if lower

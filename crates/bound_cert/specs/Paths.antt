@@ -40,11 +40,11 @@ abbrev pub letter : Bool → ℕ
 letter false = 75
 letter true = 67
 
--- what is told of a path: its letters, and a stroke where it has none
+-- the text of a path: its letters, or a stroke (-) where it has none
 abbrev pub path_text : List Bool → List ℕ
 path_text [] = codes "-"
 path_text (first ∷ rest) = map letter (first ∷ rest)
 
--- what is numbered from 0 is told from 1 on
+-- the text of a number that counts from 0, where it is told from 1 on
 abbrev pub named : ℕ → List ℕ
 named i = decimal (i + 1)

@@ -22,7 +22,7 @@ AreLeafPaths paths = (tree : Tree) × (paths ≡ leaf_paths tree)
 abbrev pub all_kept : List Bool → Bool
 all_kept path = list_all not path
 
--- whether it changes all its fields
+-- whether the path changes all its fields
 abbrev pub all_changed : List Bool → Bool
 all_changed path = list_all (λ changed. changed) path
 
@@ -39,7 +39,7 @@ abbrev pub may_stand : Option (List Bool) → List Bool → Bool
 may_stand None path = all_kept path
 may_stand (Some before) path = comes_next before path
 
--- whether it may stand before what comes later; the last of all changes all its fields
+-- whether the path may stand before these later ones: the last of all changes all its fields, and of any other nothing is asked
 abbrev pub may_end : {X : Type 0} → List Bool → List X → Bool
 may_end path [] = all_changed path
 may_end path (next ∷ later) = true

@@ -43,7 +43,7 @@ tested_from c budget tests work proofs (line ∷ lines) =
     tested_by (suc tests) (walk_with c line budget work)
     (λ steps work. tested_from c budget (suc tests) work (proofs ++ steps ∷ []) lines)
 
--- what follows the tests of a field
+-- the answer after the tests of a field: by whether all closed, so that it is forced, or one was free, or they stopped
 abbrev pub filled_by : Tested → (List (List Step) → ℕ → ℕ → Filled) → (ℕ → ℕ → Filled) → Filled
 filled_by (tested.Closed proofs tests work) closed free = closed proofs tests work
 filled_by (tested.Free tests work) closed free = free tests work

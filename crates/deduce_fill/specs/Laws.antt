@@ -87,7 +87,7 @@ FilledLaw =
     → IsRuleCase survey edits row → IsFilled survey edits row budget answer
     → FillsForced survey row answer × HasNoCompletion survey row answer × IsShown survey (lines_without edits.lines) row answer
 
--- there is one answer
+-- of a record, the definition allows one answer within a budget: any two are the same
 abbrev pub OneAnswerLaw : Type 0
 OneAnswerLaw =
     (survey : SurveyParts) (edits : EditsParts) (row : List Value) (budget : ℕ) (answer other : Filled)

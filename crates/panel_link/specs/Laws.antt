@@ -87,7 +87,7 @@ LinkedLaw =
     → IsWellFormed survey → IsRow survey.fields row → IsLinked survey row fixed budget answer
     → Says survey row fixed answer × IsShown survey row fixed answer
 
--- there is one answer
+-- of a record, the definition allows one answer within a budget: any two are the same
 abbrev pub OneAnswerLaw : Type 0
 OneAnswerLaw =
     (survey : SurveyParts) (row : List Value) (fixed budget : ℕ) (answer other : Linked)

@@ -58,7 +58,7 @@ pinned survey row fixed = survey_of survey.fields (survey.rules ++ kept_rules ro
 abbrev pub linked_lines : SurveyParts → List Value → ℕ → List LineParts
 linked_lines survey row fixed = normal_lines_of (pinned survey row fixed)
 
--- these as edits, numbered by their places
+-- the lines of the rules and the pins as edits, numbered by their places, from 0
 abbrev pub linked_edits : SurveyParts → List Value → ℕ → EditsParts
 linked_edits survey row fixed = rule_edits (pinned survey row fixed)
 

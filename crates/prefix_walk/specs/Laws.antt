@@ -21,14 +21,14 @@ ClosedWalkLaw =
     (c : SearchCase) (path : List Bool) (budget spent work : ℕ) (steps : List Step)
     → IsCase c → walk_along c path budget spent ≡ walk.Closed steps work → (p : Point) → Meets c p → ¬ AgreesAlong c path p
 
--- where a walk along a path that says something of all fields finds it open, some such point has
+-- where a walk along a path of all fields finds it open, some point at which the edits hold has the record's values at all that it keeps
 abbrev pub OpenWalkLaw : Type 0
 OpenWalkLaw =
     (c : SearchCase) (path : List Bool) (budget spent work : ℕ)
     → IsCase c → length path ≡ field_count c → walk_along c path budget spent ≡ walk.Open work
     → (p : Point) × Meets c p × AgreesAlong c path p
 
--- such a path is open, and the work of each path that it extends is within the budget
+-- a path that a walk finds open is open, and the work of each path that it extends is within the budget
 abbrev pub OpenEndLaw : Type 0
 OpenEndLaw =
     (c : SearchCase) (path : List Bool) (budget spent work : ℕ)

@@ -13,6 +13,6 @@ field_at fields place = slice_index_or (path_order fields) place 0
 abbrev pub keeps_value : List Field → List Value → ℕ → Bool → Bool
 keeps_value fields row place changed = not changed && not (is_bad (value_of row (field_at fields place)))
 
--- the set with that field, if it is kept and has a value
+-- the set with the field at a place of the path order, if it is kept and has a value
 abbrev pub with_kept : ℕ → List Field → List Value → ℕ → Bool → ℕ
 with_kept set fields row place changed = if keeps_value fields row place changed then with_number set (field_at fields place) else set

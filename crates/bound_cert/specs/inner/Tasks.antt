@@ -13,15 +13,15 @@ use Rattle.bound_cert.specs.declared.verdict.Verdict.TheVariants as verdict
 
 -- The parts of the checker. Private contracts alone cite this page.
 
--- what the tree is about
+-- the case of the tree that the task is to check
 abbrev pub case : Task → TreeCase
 case task = tree_case task.survey.now task.given.now task.usable.now task.row.now task.weight
 
--- what steps may build on there, with these fields kept
+-- what steps may build on: the usable lines, and the record's values at these kept fields
 abbrev pub premises_with : Task → ℕ → Premises
 premises_with task kept = premises_of (shape_of task.survey.now.fields) task.given.now task.usable.now task.row.now kept
 
--- its parts fit each other
+-- the parts of the task fit each other: a flag for each line, and lines and a record over the survey's fields
 pub record IsTask (task : Task) : Type 0 where
   pub lists : length task.given.now ≡ length task.usable.now
   pub over : AreOver (shape_of task.survey.now.fields) task.given.now
@@ -38,17 +38,17 @@ path_before (leaf ∷ leaves) (suc (suc i)) = path_before leaves (suc i)
 abbrev pub stands_right : Option (List Bool) → List Bool → Bool → ℕ → Bool
 stands_right before path last most = may_stand before path && ((if last then all_changed path else true) && nat_le (length path) most)
 
--- what the verdict says of a leaf whose path is right
+-- the verdict is right of a leaf whose path is right: it is valid, or it is not, and the step is its first invalid one
 abbrev pub SaysOf : TreeCase → List Bool → LeafWhy → Verdict → Type 0
 SaysOf c path reason verdict.Valid = IsValidLeaf c path reason
 SaysOf c path reason (verdict.Invalid step) = ¬ IsValidLeaf c path reason × (step ≡ invalid_step c path reason)
 
--- what it says of any leaf
+-- the verdict is right of a leaf that stands behind the path before, and before these later ones
 abbrev pub SaysAt : TreeCase → Option (List Bool) → Leaf → List Leaf → Verdict → Type 0
 SaysAt c before leaf later verdict.Valid = (is_right c before leaf.path later ≡ true) × IsValidLeaf c leaf.path leaf.why
 SaysAt c before leaf later (verdict.Invalid step) = IsFaultBehind c before (leaf ∷ later) 0 step
 
--- what it says of the leaf at a place
+-- the verdict is right of the leaf at place i, with which the last list begins
 abbrev pub SaysOfPlace : TreeCase → List Leaf → ℕ → List Leaf → Verdict → Type 0
 SaysOfPlace c leaves i [] says = ⊥
 SaysOfPlace c leaves i (leaf ∷ later) says = SaysAt c (path_before leaves i) leaf later says

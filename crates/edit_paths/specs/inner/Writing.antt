@@ -8,7 +8,7 @@ use Rattle.edit_paths.specs.declared.making.Making.{Making}
 use Rattle.edit_paths.specs.declared.making.Making.TheVariants.{By, Same}
 use Rattle.edit_paths.specs.declared.making.Written.{Written}
 
--- the place in the list before of an element that is there already
+-- the place in the list before from which an element was taken over; none of one that a step made
 abbrev pub earlier_of : Making → Option ℕ
 earlier_of (By step) = None
 earlier_of (Same place) = Some place

@@ -21,11 +21,11 @@ use Rattle.edit_paths.specs.Certificates.{leaf}
 abbrev pub codes_of_row : List ℕ → List Value → List ℕ
 codes_of_row fields row = map (λ f. code_in (value_of row f)) fields
 
--- the line is for the record's codes
+-- whether each of the record's codes is in the line's set for it, so that the line asks something of the record
 abbrev pub is_for : List Value → LineParts → Bool
 is_for row line = are_codes_in line.sets (codes_of_row (code_fields line.shape) row)
 
--- whether a line whose sum fails, or not, holds for these codes; not where a number of the sum leaves the range
+-- whether a line holds, by whether its linear part fails, and whether the codes are in its sets; not where its sum leaves the range
 abbrev pub holds_by : Result Bool ℕ → Bool → Bool
 holds_by (Ok failed) for_codes = not (failed && for_codes)
 holds_by (Err f) for_codes = false

@@ -33,7 +33,7 @@ ArePlaces paths places = (letters : List Bool) → IsPlaceOf paths letters (plac
 abbrev pub IsKnown : Known → Type 0
 IsKnown known = ArePlaces (taken_paths known.taken.now) known.places
 
--- it was taken, and has these letters
+-- this is one of the taken paths, and has these letters
 pub record IsFound (taken : List Taken) (letters : List Bool) (one : Taken) : Type 0 where
   pub there : IsIn one taken
   pub path : one.path ≡ letters

@@ -47,13 +47,13 @@ AreBoxes boxes (Boxes own) = arc_value own ≡ boxes
 abbrev pub cover_work : SearchCase → List BoxFrom → ℕ → ℕ
 cover_work c before f = 1 + cover_count (shape_of c.survey.fields) (sets_of before) f
 
--- the field was changed: the boxes are combined there
+-- the look is that at a path that changes the field: the boxes are combined there
 pub record IsChanged (c : SearchCase) (before : List BoxFrom) (f : ℕ) (look : Look) : Type 0 where
   pub work : look.work ≡ cover_work c before f
   pub basis : AreBoxes (covered_from (shape_of c.survey.fields) before f) look.basis
   pub state : look.state ≡ whole_state c (covered_from (shape_of c.survey.fields) before f)
 
--- the field was kept: the boxes are fixed at its code, and a field without one closes the path
+-- the look is that at a path that keeps the field: the boxes are fixed at its code, and a field without one closes the path
 abbrev pub IsKept : SearchCase → List BoxFrom → ℕ → Value → Look → Type 0
 IsKept c before f (Code code) look =
     AreBoxes (fixed_from (shape_of c.survey.fields) before f code) look.basis

@@ -9,12 +9,12 @@ use Rattle.path_walk.specs.Lists.{HasLists}
 use Rattle.prefix_walk.specs.PathWalks.{ended_by}
 use Rattle.prefix_walk.specs.declared.walk_end.WalkEnd.{WalkEnd}
 
--- the walk ends at a path of this state; if it does not, the path has a basis
+-- the end, if one is told, is the walk's at a path of this state; if none is, the path has a basis
 abbrev pub TellsStop : PathState → ℕ → Option WalkEnd → Type 0
 TellsStop state work (Some end) = (c : SearchCase) (path : List Bool) (next : WalkEnd) → ended_by c path work next state ≡ end
 TellsStop state work None = has_basis state ≡ true
 
--- the walk ends at a path of this state, to which the lists lead; if it does not, the path is open
+-- the end, if one is told, is the walk's at a path of this state, to which the lists lead; if none is, the path is open
 abbrev pub TellsClosed : PathState → List Level → ℕ → Option WalkEnd → Type 0
 TellsClosed state levels work (Some end) =
     (c : SearchCase) (path : List Bool) (next : WalkEnd)

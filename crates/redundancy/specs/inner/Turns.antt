@@ -80,16 +80,16 @@ number_walk shape row budget spent history lines (f ∷ fields) =
 
 -- ---- one turn of the walk
 
--- the line is dropped by the element at a place, if there is one
+-- the verdict that drops the line by the element at a place, if there is one; else the next verdict, if any
 abbrev pub ended_by : History → Option ℕ → Option Verdict → Option Verdict
 ended_by history (Some place) next = Some (Dropped (steps_to history place))
 ended_by history None next = next
 
--- the line is kept where the work passes the budget
+-- the verdict that keeps the line, where the work passes the budget; else the next verdict, if any
 abbrev pub past : ℕ → ℕ → Option Verdict → Option Verdict
 past budget work next = if nat_lt budget work then Some (Kept Budget) else next
 
--- the line is kept where a number leaves the range
+-- the verdict that keeps the line, where a number leaves the range; else none
 abbrev pub overflowed : Result (List Derived) StepOverflow → Option Verdict
 overflowed (Ok lines) = None
 overflowed (Err overflow) = Some (Kept Overflow)
