@@ -12,7 +12,7 @@ use std::alloc::Global;
 use std::cmp::Ordering;
 
 /// How the value at each field of the set `changed` was found: one `How` for each, in path order, told with a
-/// gift. `row` is the record with these values, and `donor` the record that they were first taken from.
+/// gift. `row` is the record with these values. The values of `donor`, if there is one, were the first choice.
 pub(crate) fn how_of_each(
     alloc: Global,
     survey: &Survey,

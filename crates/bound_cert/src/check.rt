@@ -19,10 +19,10 @@ use std::alloc::Global;
 
 /// Ok exactly where the tree is valid. Then each point at which the usable lines hold changes the record by
 /// the weight at least; without a weight, there is no such point. `usable` says of each of the `given`
-/// lines, which are over the survey's fields, whether steps may build on it.
-/// Bad comes with the first leaf whose path is not the next of a full tree or which is not valid. Of a leaf
-/// that is not valid it also names the first step that is not, if there is one. Both are numbered from 0;
-/// where there are no leaves, Bad names leaf 0. The time is in proportion to the size of the tree.
+/// lines, which are over the survey's fields, whether steps may build on it. Bad comes with the first leaf
+/// whose path is not the next of a full tree or which is not valid, and with the first of its steps that is
+/// not, if there is one. Both count from 0; where there are no leaves, Bad names leaf 0. The time is in
+/// proportion to the size of the tree.
 pub fn check_cert(
     alloc: Global,
     survey: &Survey,
@@ -52,8 +52,8 @@ pub fn check_cert(
     check_leaves(alloc, &task, cert.leaves.as_slice())
 }
 
-// Ok exactly where these are the leaves of a valid tree, in order. Else it tells the first leaf at fault, as
-// [`check_cert`] says it, which hands the whole task down to this loop.
+// Ok exactly where these are the leaves of a valid tree, in order. Bad with the first leaf that is at fault, or
+// with leaf 0 where there are none. [`check_cert`] hands its whole task down to this loop.
 fn check_leaves(alloc: Global, task: &Task, leaves: &[Leaf]) -> Result<(), CertFault>
     requires { IsTask task.now }
     ensures valid { OnOk result (IsValidTree (case task.now) leaves.now) }

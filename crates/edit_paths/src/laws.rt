@@ -23,9 +23,8 @@ pub fn path_laws()
 
 /// Laws of outcomes; nothing is computed. A change is the lightest at which the edits hold, and of equal ones
 /// the first letter by letter. Where they hold just at the corrections, it is a least change (Fellegi and
-/// Holt 1976). At no point do the edits of a contradictory record hold.
-/// With a budget of the total work, a change is found where there is one and no number leaves the range.
-/// The certificates are valid trees.
+/// Holt 1976). At no point do the edits of a contradictory record hold. With a budget of the total work, a
+/// change is found where there is one and no number leaves the range. The certificates are valid trees.
 pub fn outcome_laws()
     ensures change { (c : SearchCase) (budget : ℕ) → IsCase c → ChoosesFirst c (outcome_of c budget) }
     ensures least { LeastLaw }

@@ -75,8 +75,8 @@ pub fn line_by(origin: Origin) -> Making
     }
 }
 
-/// How a box with this origin was made, in the list of boxes that `field` was eliminated from or fixed in.
-/// The steps that cover or fix a field name it. Memory may be refused for the parts of a cover.
+/// How a box with this origin was made, in the list that is left when `field` is eliminated from the boxes or
+/// fixed in them. The steps that cover or fix a field name it. Memory may be refused for the parts of a cover.
 pub fn box_by(alloc: Global, field: u32, origin: &BoxOrigin) -> Result<Making, OutOfMemory>
     ensures { IfOk result (λ making. making ≡ box_by field origin.now) }
 {

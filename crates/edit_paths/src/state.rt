@@ -28,7 +28,8 @@ impl PathState {
         matches!(self, PathState::Open)
     }
 
-    /// Whether no correction keeps what the path keeps. No memory.
+    /// Whether something was found by which no correction keeps what the path keeps. Where a number left the
+    /// range, a path is neither closed nor open. No memory.
     pub fn is_closed(self) -> bool
         ensures { result ≡ is_closed self }
     {

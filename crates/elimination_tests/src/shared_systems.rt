@@ -111,8 +111,8 @@ fn obtains_both<R: Wait, L: Ledger>(
     obtains(rt, alloc, pool, reader, trade.both, WITHOUT_BOTH, steps)
 }
 
-/// Whether the reader finds in the pool, without making it, a system without these fields that has these
-/// lines.
+/// Whether the reader finds the system without these fields in the pool, and it has these lines. False where it
+/// is not there; none is made.
 fn finds(pool: &Pool, reader: &mut Reader, fields: FieldSet, wanted: &[LinePlan]) -> bool
     requires { IsReaderOf pool.now reader.old }
     ensures { IsReaderOf pool.now reader.new }

@@ -28,8 +28,8 @@ use std::sync::ledger::Ledger;
 
 /// The outcome of a record at which all lines hold, where the budget is above the number of fields:
 /// nothing is changed. It is that of the search, whose first paths keep all their fields. None where a
-/// line does not hold in range, a value is missing, or the budget is no greater; then the search has to
-/// tell.
+/// line does not hold in range, a value is missing, or the budget is at most the number of fields. Then the
+/// search has to tell.
 pub(crate) fn find_unchanged<S: Systems, L: Ledger>(
     alloc: Global,
     source: &mut S,

@@ -38,7 +38,8 @@ pub(crate) fn linked_edits(
     Ok(Arc::new(alloc, Edits::new(alloc, survey, all)?)?)
 }
 
-// Copies of the lines of the rules, in order, each with its place, from 0, as its number.
+// Copies of the lines of the rules, in order, each with its place, from 0, as its number. Behind them the pins
+// are put.
 fn numbered_lines(alloc: Global, lines: &[RuleLine]) -> Result<Vec<(u32, Line)>, OutOfMemory>
     requires { length lines.now ≤ 1000 }
     ensures { IfOk result (λ placed. placed.items ≡ placed_from 0 (map (λ l. l.line) lines.now)) }

@@ -21,7 +21,7 @@ pub(crate) fn lacks_value(survey: &Survey, row: &Row, fixed: FieldSet) -> bool
     false
 }
 
-// Whether the field is fixed, and has no value in the record.
+// Whether the field is one of the `fixed` ones, and has no value in the record.
 fn lacks_at(row: &Row, fixed: FieldSet, field: u32) -> bool
     requires few { field < 64 }
     requires within { field < length row.now }

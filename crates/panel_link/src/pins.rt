@@ -88,7 +88,7 @@ fn factor_at(other: u32, field: u32, x: Fraction) -> i128
     if field == other { x.denominator() } else { 0 }
 }
 
-// The negative of a number. It is in range, as the number is, so that -2^127 can't come.
+// The negative of a number. A number in range is at most 2^127 - 1 in size, so its negative is in range, too.
 fn negative(number: i128) -> i128
     requires { InRange number }
     ensures value { result ≡ neg_ℤ number }

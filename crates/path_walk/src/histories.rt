@@ -56,10 +56,10 @@ struct KnownPath<'a> {
     basis: Option<&'a Basis>,
 }
 
-/// Appends the lists that the last letter of the path leads to, to those of the path before. These are the
-/// lines of its system where it changes a numerical field, and the boxes after its field where that is
-/// categorical. Before the first such boxes the record's boxes stand; the empty path has the lines of the
-/// edits. A system for which a number leaves the range gives no list.
+/// Appends the lists that the path has more than the path before its last letter, whose lists are in `levels`.
+/// These are the lines of its system where that letter changes a numerical field, and the boxes after its
+/// field where that is categorical. Before the first such boxes the record's boxes stand; the empty path has
+/// the lines of the edits. A system for which a number leaves the range gives no list.
 pub fn push_lists<S: Systems, L: Ledger>(
     alloc: Global,
     source: &mut S,
@@ -362,8 +362,8 @@ fn boxes_after(
     Ok(Sequence::from_vec(boxes))
 }
 
-// The record's code at the categorical field, which a path that keeps it fixes its boxes at; 0 where the
-// record has none.
+// The record's code at the categorical field: at it boxes are fixed where a path keeps the field. It is 0 where
+// the record has none.
 fn code_at(problem: &Problem, field: u32) -> u8
     requires problem { IsProblem problem.now }
     requires takes { TakesCodes (shape_of (case_in problem.now).survey.fields) field }

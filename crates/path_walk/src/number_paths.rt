@@ -49,9 +49,9 @@ pub(crate) struct NumberPath<'a> {
     pub(crate) before: &'a Arc<Held>,
 }
 
-/// Looks into a path that says something of numerical fields alone. None where its work, which is 1 and the
-/// pairs of its last step, is more than `most`. The system is that of the path before its last letter; for
-/// the empty path, that of the edits.
+/// Looks into a path that says something of numerical fields alone. None exactly where its work, which is 1 and
+/// the pairs of its last step, is more than `most`. `at` has the path, and the system of the path before its
+/// last letter; for the empty path, that of the edits.
 pub(crate) fn look_at_numbers<S: Systems, L: Ledger>(
     alloc: Global,
     source: &mut S,

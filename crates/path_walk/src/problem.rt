@@ -55,7 +55,7 @@ pub(crate) fn changed_numbers(problem: &Problem, letters: &[bool]) -> FieldSet
     set
 }
 
-// The set, and this field too where `changed` is true.
+// The set with this field added where `changed` is true, and else as it was.
 fn with_changed(set: FieldSet, field: u32, changed: bool) -> FieldSet
     requires { field < 64 }
     ensures { (f : ℕ) → has_number result f ≡ (has_number set f || ((field == f) && changed)) }

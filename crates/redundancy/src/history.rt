@@ -26,7 +26,7 @@ impl Model for History {
 }
 
 impl History {
-    /// The history of no list. No memory.
+    /// The history of no list, with which a walk begins. No memory.
     pub(crate) fn new(alloc: Global) -> History
         ensures { result ≡ [] }
     {
