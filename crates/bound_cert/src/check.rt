@@ -20,9 +20,9 @@ use std::alloc::Global;
 /// Ok exactly where the tree is valid. Then each point at which the usable lines hold changes the record by
 /// the weight at least; without a weight, there is no such point. `usable` says of each of the `given`
 /// lines, which are over the survey's fields, whether steps may build on it. Bad comes with the first leaf
-/// whose path is not the next of a full tree or which is not valid, and with the first of its steps that is
-/// not, if there is one. Both count from 0; where there are no leaves, Bad names leaf 0. The time is in
-/// proportion to the size of the tree.
+/// whose path is not the next of a full tree, or which is not valid. Of one that is not valid it also names
+/// the first step that is not, if there is one. Both count from 0; where there are no leaves, Bad names leaf
+/// 0. The time is in proportion to the size of the tree.
 pub fn check_cert(
     alloc: Global,
     survey: &Survey,
