@@ -4,7 +4,7 @@ ghost use Rattle.edit_desk.specs.Desk.{TakesOneMore};
 ghost use Rattle.edit_desk.specs.inner.Reads.{ReadsWhole};
 
 use crate::calls::{Desk, FetchError, StoreError};
-use crate::count::raise;
+use crate::count::raise_count;
 use crate::writing::write_whole;
 use std::alloc::{AllocError, Global};
 use std::fs;
@@ -52,7 +52,7 @@ impl<R: Files + Drop> Desk for FileDesk<R> {
     fn fetch(&mut self, alloc: Global, name: &str, limit: u64) -> Result<Vec<u8>, FetchError> {
         let answer = read_file(&self.rt, alloc, name, limit);
         if let Err(FetchError::Failed) = answer {
-            raise(&mut self.faults);
+            raise_count(&mut self.faults);
         }
         answer
     }
@@ -61,7 +61,7 @@ impl<R: Files + Drop> Desk for FileDesk<R> {
     fn store(&mut self, _alloc: Global, name: &str, bytes: &[u8]) -> Result<(), StoreError> {
         let answer = write_file(&self.rt, name, bytes);
         if let Err(StoreError::Failed) = answer {
-            raise(&mut self.faults);
+            raise_count(&mut self.faults);
         }
         answer
     }

@@ -144,7 +144,7 @@ impl Desk for MemoryDesk {
         let failure = self.due_failure();
         self.calls.reserve(1)?;
         let asked = String::from_str(alloc, name)?;
-        put(alloc, &mut self.files, name, kept_bytes(bytes, failure))?;
+        insert_copy(alloc, &mut self.files, name, kept_bytes(bytes, failure))?;
         self.calls.push_reserved(Call {
             store: true,
             name: asked,
@@ -206,7 +206,7 @@ fn bytes_within(
 // Puts the bytes under the name, or changes nothing where memory is refused: both copies are made before
 // the map is touched.
 #[tactic(auto, using(crate::proofs::MemoryLaws::under_named))]
-fn put(
+fn insert_copy(
     alloc: Global,
     files: &mut BTreeMap<String, Vec<u8>>,
     name: &str,

@@ -5,7 +5,7 @@ ghost use Rattle.edit_desk.specs.Desk.{raised};
 ghost use Rattle.edit_desk.specs.Page.{IsDue, IsTooMuch, free, printer_room};
 ghost use Rattle.edit_desk.specs.Printer.{Prints, after_line, line_of};
 
-use crate::count::raise;
+use crate::count::raise_count;
 use crate::printer::{PrintFailed, Printer};
 use foundation::OutOfMemory;
 use std::alloc::Global;
@@ -90,11 +90,11 @@ impl Printer for MemoryPrinter {
         ensures room { self.new.room ≡ self.old.room }
     {
         let whole = !self.is_due() && append_line(&mut self.text, text);
-        raise(&mut self.lines);
+        raise_count(&mut self.lines);
         if whole {
             return Ok(());
         }
-        raise(&mut self.faults);
+        raise_count(&mut self.faults);
         Err(PrintFailed)
     }
 }

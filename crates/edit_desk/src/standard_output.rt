@@ -3,7 +3,7 @@ ghost use Rattle.std.specs.Prelude.{◌≡◌, ℕ, None, OnOk, take};
 ghost use Rattle.std.specs.Io.KnownBytes.{Appends};
 ghost use Rattle.edit_desk.specs.Printer.{line_of};
 
-use crate::count::raise;
+use crate::count::raise_count;
 use crate::printer::{PrintFailed, Printer};
 use crate::writing::write_whole;
 use std::io::{self, Write};
@@ -43,7 +43,7 @@ impl<R: Print + Drop> Printer for OutPrinter<R> {
     fn line(&mut self, text: &[u8]) -> Result<(), PrintFailed> {
         let answer = write_line(&mut io::writer(&self.rt), text);
         if answer.is_err() {
-            raise(&mut self.faults);
+            raise_count(&mut self.faults);
         }
         answer
     }

@@ -5,7 +5,7 @@ use Rattle.std.specs.Option.{option_map}
 use Rattle.std.specs.declared.alloc.Global.{Global}
 use Rattle.std.proofs.lemmas.Map.Text.{text_keys}
 use Rattle.edit_desk.proofs.MemoryLaws.{under_named}
-use Rattle.edit_desk.proofs.memory.put.Goals as goal
+use Rattle.edit_desk.proofs.memory.insert_copy.Goals as goal
 
 pub returns-clause-here : goal.returns-clause-here
 returns-clause-here c = rw (under_named c.insert.new.self c.args.name.now) (grind (arith, text_keys))
