@@ -9,7 +9,7 @@ use crate::Overflow;
 /// The product of two numbers, or Overflow exactly where it is out of range. Two numbers of 64 bits go a
 /// way of their own, for speed: their product always fits, so the compiler can leave the check out.
 #[inline(always)]
-pub(crate) fn product(a: i128, b: i128) -> Result<i128, Overflow>
+pub(crate) fn product_in_range(a: i128, b: i128) -> Result<i128, Overflow>
     ensures { OkIff result (InRange (a *ℤ b)) (a *ℤ b) }
 {
     match (i64::try_from(a), i64::try_from(b)) {
@@ -31,7 +31,7 @@ fn product_of(a: i128, b: i128) -> Result<i128, Overflow>
 
 /// The sum of two numbers, or Overflow exactly where it is out of range, as -2^127 is.
 #[inline(always)]
-pub(crate) fn sum(a: i128, b: i128) -> Result<i128, Overflow>
+pub(crate) fn sum_in_range(a: i128, b: i128) -> Result<i128, Overflow>
     ensures { OkIff result (InRange (a +ℤ b)) (a +ℤ b) }
 {
     match a.checked_add(b) {
@@ -46,7 +46,7 @@ pub(crate) fn sum_of_products(a: i128, b: i128, c: i128, d: i128) -> Result<i128
     ensures fits { OnOk result (AllInRange ((a *ℤ b) ∷ (c *ℤ d) ∷ (a *ℤ b +ℤ c *ℤ d) ∷ [])) }
     ensures overflow { OnErr result (¬ AllInRange ((a *ℤ b) ∷ (c *ℤ d) ∷ (a *ℤ b +ℤ c *ℤ d) ∷ [])) }
 {
-    let first = product(a, b)?;
-    let second = product(c, d)?;
-    sum(first, second)
+    let first = product_in_range(a, b)?;
+    let second = product_in_range(c, d)?;
+    sum_in_range(first, second)
 }

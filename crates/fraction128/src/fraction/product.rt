@@ -6,7 +6,7 @@ ghost use Rattle.fraction128.specs.Arithmetic.{IsProduct, IsQuotient, scaled_num
 ghost use Rattle.fraction128.specs.Range.{InRange, AllInRange};
 
 use crate::divisor::Cofactors;
-use crate::range::product;
+use crate::range::product_in_range;
 use crate::{Fraction, Overflow};
 
 impl Fraction {
@@ -35,7 +35,7 @@ impl Fraction {
         ensures fits { OnOk result (AllInRange (scaled_numbers self factor)) }
         ensures overflow { OnErr result (¬ AllInRange (scaled_numbers self factor)) }
     {
-        let numerator = product(self.numerator, factor)?;
+        let numerator = product_in_range(self.numerator, factor)?;
         Ok(Fraction::whole(numerator))
     }
 
@@ -49,7 +49,7 @@ impl Fraction {
         ensures overflow { OnErr result (¬ AllInRange (scaled_numbers self factor)) }
     {
         let parts = Cofactors::of(factor, self.denominator);
-        let numerator = product(self.numerator, parts.first)?;
+        let numerator = product_in_range(self.numerator, parts.first)?;
         Ok(Fraction::from_lowest_terms(numerator, parts.second))
     }
 
@@ -64,7 +64,7 @@ impl Fraction {
         ensures overflow { OnErr result (¬ AllInRange (divided_numbers self divisor)) }
     {
         let parts = Cofactors::of(self.numerator, divisor);
-        let denominator = product(self.denominator, parts.second.abs())?;
+        let denominator = product_in_range(self.denominator, parts.second.abs())?;
         let quotient = Fraction::from_lowest_terms(parts.first, denominator);
         if divisor < 0 {
             Ok(quotient.negated())

@@ -7,7 +7,7 @@ ghost use Rattle.fraction128.specs.Formulas.{answered, middle, ratio_of};
 ghost use Rattle.fraction128.specs.Range.{AllInRange};
 
 use crate::divisor::Cofactors;
-use crate::range::{product, sum, sum_of_products};
+use crate::range::{product_in_range, sum_in_range, sum_of_products};
 use crate::{Fraction, Overflow};
 
 impl Fraction {
@@ -35,7 +35,7 @@ impl Fraction {
         ensures fits { OnOk result (AllInRange (sum_numbers self other)) }
         ensures overflow { OnErr result (¬ AllInRange (sum_numbers self other)) }
     {
-        let numerator = sum(self.numerator, other.numerator)?;
+        let numerator = sum_in_range(self.numerator, other.numerator)?;
         Ok(Fraction::whole(numerator))
     }
 
@@ -54,7 +54,7 @@ impl Fraction {
             other.numerator,
             parts.first,
         )?;
-        let denominator = product(parts.first, other.denominator)?;
+        let denominator = product_in_range(parts.first, other.denominator)?;
         Ok(Fraction::reduced(numerator, denominator))
     }
 

@@ -59,7 +59,7 @@ returns c =
     let second = simp to_z-of_z at c.in_ok-second.ensures in
     let first_fits : FitsSigned w128 c.in_ok-first.first = subst (FitsSigned w128) (sym first.1) (FitsSigned-in_range _ first.0) in
     let second_fits : FitsSigned w128 c.in_ok-second.second = subst (FitsSigned w128) (sym second.1) (FitsSigned-in_range _ second.0) in
-    let sum = simp to_z-of_z at c.sum.ensures in
+    let sum = simp to_z-of_z at c.sum_in_range.ensures in
     let by_products = rw (first.1, second.1) at sum in
-    let is = SumOf-from_iff c.sum.result (c.args.a *ℤ c.args.b) (c.args.c *ℤ c.args.d) first.0 second.0 by_products in
+    let is = SumOf-from_iff c.sum_in_range.result (c.args.a *ℤ c.args.b) (c.args.c *ℤ c.args.d) first.0 second.0 by_products in
     record { value = is.value; fits = is.fits; overflow = is.overflow }
