@@ -6,7 +6,7 @@ ghost use Rattle.donor_book.specs.Claims.{GetsNobody, IsDonor, answer_to, claim_
 ghost use Rattle.donor_book.specs.Entries.{IsLegalHistory, history_after, wins_of, with_history};
 
 use crate::claim::{Claim, Entry, Won};
-use crate::indexes::{first_below, no_replies, note};
+use crate::indexes::{first_below, no_replies, note_claim};
 use foundation::{OutOfMemory, Sequence};
 use std::alloc::Global;
 use std::marker::Model;
@@ -128,7 +128,7 @@ impl Book {
             row_no: entry.row_no,
             reply: entry.reply,
         };
-        note(&mut self.uses, &mut self.replies, won);
+        note_claim(&mut self.uses, &mut self.replies, won);
         self.history.push_reserved(entry);
     }
 }

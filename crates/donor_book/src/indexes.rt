@@ -24,7 +24,7 @@ pub fn first_below(uses: &[u32], limit: u32, ranking: &[u32]) -> Option<u32>
 
 // Notes a claim in both tables: it counts the donor, if one was given, and keeps what the row was given.
 // Each count can grow by one within 32 bits.
-pub fn note(uses: &mut Vec<u32>, replies: &mut Vec<Option<Option<u32>>>, won: Won)
+pub fn note_claim(uses: &mut Vec<u32>, replies: &mut Vec<Option<Option<u32>>>, won: Won)
     requires row { won.row_no < length replies.old.items }
     requires donor { IsDonor (length uses.old.items) won.reply }
     requires room { All (λ n. n + 1 < 2 ^ 32) uses.old.items }

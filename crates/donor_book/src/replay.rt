@@ -8,7 +8,7 @@ ghost use Rattle.donor_book.specs.Entries.{IsEntryWithin, IsFirstIllegal, IsLega
 ghost use Rattle.donor_book.specs.inner.Indexes.{IsNext, IsReplay};
 
 use crate::claim::{Entry, Won};
-use crate::indexes::{first_below, no_replies, note};
+use crate::indexes::{first_below, no_replies, note_claim};
 use foundation::OutOfMemory;
 use std::alloc::Global;
 
@@ -37,7 +37,7 @@ pub fn first_illegal(
             row_no: entry.row_no,
             reply: entry.reply,
         };
-        note(&mut uses, &mut replies, won);
+        note_claim(&mut uses, &mut replies, won);
     }
     Ok(None)
 }

@@ -16,9 +16,9 @@ ghost use Rattle.donor_book.specs.inner.Rule.{known};
 ghost use Rattle.donor_book.specs.inner.Tries.{HasTriedTo, IsAt, Sees};
 
 use crate::claim::{Claim, Won};
-use crate::indexes::{first_below, no_replies, note};
+use crate::indexes::{first_below, no_replies, note_claim};
 use crate::rule::{HistoryRule, Known, NewPass, TakeIn, Terms, Tried, Try};
-use crate::words::{read, read_history, word};
+use crate::words::{claim_word, read_claim, read_history};
 use atomic_table::{Seat, Table};
 use foundation::OutOfMemory;
 use std::alloc::Global;
@@ -225,7 +225,7 @@ impl SharedBook {
             (Sees pass.old pass.new) }
     {
         let found = self.enter::<Brand>(&mut pass.seat, pass.len, ranking, claim);
-        note(&mut pass.uses, &mut pass.replies, read(found, claim));
+        note_claim(&mut pass.uses, &mut pass.replies, read_claim(found, claim));
         pass.len += 1;
         found == 0
     }
@@ -251,6 +251,6 @@ impl SharedBook {
     {
         self.table
             .shared
-            .compare_exchange::<Try<A>>(seat, at as usize, 0, word(claim))
+            .compare_exchange::<Try<A>>(seat, at as usize, 0, claim_word(claim))
     }
 }

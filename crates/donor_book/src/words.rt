@@ -32,7 +32,7 @@ fn reply_code(reply: Option<u32>) -> u64
 
 // The word of a claim. Its upper 32 bits are one more than the row's number, so that no claim's word is 0.
 // The lower ones are the reply.
-pub fn word(claim: Won) -> u64
+pub fn claim_word(claim: Won) -> u64
     requires row { claim.row_no + 1 < 2 ^ 32 }
     requires donor { IsDonor (2 ^ 32 - 1) claim.reply }
     ensures { result ≡ word_of claim }
@@ -42,7 +42,7 @@ pub fn word(claim: Won) -> u64
 
 // The claim that stands at a place after a try to enter one there. A try that found 0 entered its own,
 // `claim`; else the word that it found is that of another.
-pub fn read(found: u64, claim: Won) -> Won
+pub fn read_claim(found: u64, claim: Won) -> Won
     requires { MatchBool (found == 0) (Unit {0}) ((x : Won) × (word_of x ≡ found) × (x.row_no + 1 < 2 ^ 32)
         × IsDonor (2 ^ 32 - 1) x.reply) }
     ensures { IsRead claim found result }
@@ -76,7 +76,7 @@ pub fn read_history(closed: &Closed<(), Global>, terms: Terms, mut history: Vec<
         if word == 0 {
             break;
         }
-        history.push_reserved(read(word, NO_CLAIM));
+        history.push_reserved(read_claim(word, NO_CLAIM));
     }
     history
 }

@@ -24,21 +24,21 @@ returns-then-not-is_next-clause-illegal c =
     c.loop-place.replies.items c.loop-place.invariant c.loop-place-test.true c.index-claims-place.is
     (not_from_Decides c.is_next.result (told at) c.if-not-is_next.true)
 
-pub note-requires-clause-donor : goal.note-requires-clause-donor
-note-requires-clause-donor c =
-    let at = (goal.at.note-requires-clause-donor c).After-is_next in
+pub note_claim-requires-clause-donor : goal.note_claim-requires-clause-donor
+note_claim-requires-clause-donor c =
+    let at = (goal.at.note_claim-requires-clause-donor c).After-is_next in
     donor_within c.args.limit c.args.donors c.args.rows c.args.claims.now c.loop-place.place c.index-claims-place.result c.loop-place.uses.items
     c.loop-place.replies.items c.loop-place.invariant c.loop-place-test.true c.index-claims-place.is c.requires.within ((told at).0 c.if-not-is_next.false)
 
-pub note-requires-clause-room : goal.note-requires-clause-room
-note-requires-clause-room c =
-    let at = (goal.at.note-requires-clause-room c).After-is_next in
+pub note_claim-requires-clause-room : goal.note_claim-requires-clause-room
+note_claim-requires-clause-room c =
+    let at = (goal.at.note_claim-requires-clause-room c).After-is_next in
     room_within c.args.limit c.args.donors c.args.rows c.args.claims.now c.loop-place.place c.index-claims-place.result c.loop-place.uses.items
     c.loop-place.replies.items c.loop-place.invariant c.loop-place-test.true c.index-claims-place.is c.requires.within ((told at).0 c.if-not-is_next.false)
 
 pub loop-place-preserved : goal.loop-place-preserved
 loop-place-preserved c =
     let at = (goal.at.loop-place-preserved c).After-is_next in
-    rw (c.note.ensures.uses, c.note.ensures.replies)
+    rw (c.note_claim.ensures.uses, c.note_claim.ensures.replies)
     (read_more c.args.limit c.args.donors c.args.rows c.args.claims.now c.loop-place.place c.index-claims-place.result c.loop-place.uses.items
     c.loop-place.replies.items c.loop-place.invariant c.loop-place-test.true c.index-claims-place.is c.requires.within ((told at).0 c.if-not-is_next.false))

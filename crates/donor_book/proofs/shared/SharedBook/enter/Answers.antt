@@ -16,9 +16,9 @@ compare_exchange-requires g c =
     let rows : c.args.self.now.terms.rows ≡ c.self.inside.table.shared.key.rows = ap (λ (t : Terms). t.rows) terms in (
       r.seat.0 ∙ sym (ap (λ b. b.table) c.self.view_is),
       (let a = r.at.1 in omega (arith, a, own.0, ap (λ (t : Terms). t.rows) own.2, rows)),
-      rw (r.at.0, c.word.ensures, r.entry)
+      rw (r.at.0, c.claim_word.ensures, r.entry)
           (tries c.self.inside.table.shared.key c.self.inside.table.shared.table_id.slots c.args.seat.now.id me
-          (step c.self.inside.table.shared.table_id.slots (length me.0.seen) 0 c.word.result none)
+          (step c.self.inside.table.shared.table_id.slots (length me.0.seen) 0 c.claim_word.result none)
           (entry_of c.args.claim.row_no c.args.ranking.now c.args.claim.reply)
           (r.seat.2 ∙ terms) r.seat.3 (let a = r.at.1 in omega (arith, a, r.at.0, rows))
           (subst (λ (t : Terms). IsWithin t.donors t.rows c.args.claim) terms r.claim) r.first
