@@ -123,7 +123,7 @@ impl Classes {
     }
 
     /// What the class's book answered, with the numbers that donors have in the whole file. No memory.
-    pub fn in_file(&self, class: usize, answer: Claim) -> Claim
+    pub fn claim_in_file(&self, class: usize, answer: Claim) -> Claim
         requires class { class < self.now.classes }
         requires given { IsGivenWithin (length (rows_in self.now.class_of class)) answer }
         ensures { result ≡ claim_with self.now.class_of class answer }

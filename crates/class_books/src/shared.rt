@@ -111,7 +111,7 @@ impl SharedClasses {
             self.classes.number_of(row_no),
             &numbers[..ranking.len()],
         );
-        self.classes.in_file(class, answer)
+        self.classes.claim_in_file(class, answer)
     }
 
     /// The history of each class, in the order of the classes, once all passes are handed back. Each is

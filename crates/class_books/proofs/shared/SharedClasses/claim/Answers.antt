@@ -82,9 +82,9 @@ claim-answer-requires-clause-donors c =
     let at = (goal.at.claim-answer-requires-clause-donors c).After-number_of in
     subst (λ t. All (λ d. d < t.donors) (take (length c.args.ranking.now) c.numbers_of-numbers.result)) (sym (book-terms at)) (are at).within
 
-pub in_file-requires-clause-given : goal.in_file-requires-clause-given
-in_file-requires-clause-given c =
-    let at = (goal.at.in_file-requires-clause-given c).After-number_of in
+pub claim_in_file-requires-clause-given : goal.claim_in_file-requires-clause-given
+claim_in_file-requires-clause-given c =
+    let at = (goal.at.claim_in_file-requires-clause-given c).After-number_of in
     let numbers = take (length c.args.ranking.now) c.numbers_of-numbers.result in
     subst (λ (t : ClassTerms). IsGivenWithin (length (rows_in t.class_of (class at))) c.claim-answer.result) (sym (c.deref-4.ensures ∙ terms-same at))
     (given-in (length (rows_in (terms at).class_of (class at))) c.index_mut-hand.result.now c.claim-answer.new.self c.number_of.result numbers
@@ -124,10 +124,10 @@ returns-clause-answered c =
     let before = class_pass_of (terms at) (hands at) in
     let after = class_pass_of (terms at) (set (hands at) (class at) c.claim-answer.new.self) in
     let changed = changed-to at c.claim-answer.new.self c.claim-answer.ensures.book in
-    let answer : c.in_file.result ≡ claim_with (terms at).class_of (class at) c.claim-answer.result = c.in_file.ensures
+    let answer : c.claim_in_file.result ≡ claim_with (terms at).class_of (class at) c.claim-answer.result = c.claim_in_file.ensures
     ∙ ap (λ (t : ClassTerms). claim_with t.class_of (class at) c.claim-answer.result) (c.deref-4.ensures ∙ terms-same at) in
     let told = answered-in changed (terms at) row c.number_of.result ranking numbers c.claim-answer.result c.pass.invariant (number-at at) (are at)
     c.claim-answer.ensures.answered in
-    subst (λ k. IsAnswered (pass_in k c.args.pass.now) row ranking c.in_file.result (pass_in k after)) (sym (here at))
-    (subst (λ (q : ClassPassState). IsAnswered (pass_in (class at) q) row ranking c.in_file.result (pass_in (class at) after)) c.pass.view_is
+    subst (λ k. IsAnswered (pass_in k c.args.pass.now) row ranking c.claim_in_file.result (pass_in k after)) (sym (here at))
+    (subst (λ (q : ClassPassState). IsAnswered (pass_in (class at) q) row ranking c.claim_in_file.result (pass_in (class at) after)) c.pass.view_is
     (subst (λ (a : Claim). IsAnswered (pass_in (class at) before) row ranking a (pass_in (class at) after)) (sym answer) told))
