@@ -29,12 +29,12 @@ const USAGE: &str = "usage: claims_bench [COUNT THREADS]";
 // says so.
 fn main(rt: HostRuntime) -> ExitCode {
     let alloc = rt.alloc();
-    let told = told(&rt, alloc);
+    let told = text_for_words(&rt, alloc);
     leave(alloc, &mut OutPrinter::new(rt), USAGE, told)
 }
 
 // What is printed of the words after the program's name; `Fault::Usage` where they are not in form.
-fn told<R: std::rt::Env + AllocGlobal + Threads + Sync>(
+fn text_for_words<R: std::rt::Env + AllocGlobal + Threads + Sync>(
     rt: &R,
     alloc: Global,
 ) -> Result<String, Fault> {

@@ -77,7 +77,7 @@ fn run_all<R: Threads + Sync>(
             ensures { HasRun tickets.entry.now.row book.entry.now result }
         {
             let mut worker = worker;
-            worker.run(tickets, book);
+            worker.draw_and_claim(tickets, book);
             worker
         },
     )?)

@@ -17,7 +17,7 @@ pub struct Worker {
 impl Worker {
     /// Draws numbers until none is left, and claims a donor for the row of each. The answers stand in
     /// the book alone. `Fits`, `IsReady` and `HasRun` are told in `tally`.
-    pub fn run(&mut self, tickets: &Tickets, book: &SharedBook)
+    pub fn draw_and_claim(&mut self, tickets: &Tickets, book: &SharedBook)
         requires fits { Fits tickets.now.row book.now }
         requires ready { IsReady tickets.now.row book.now self.old }
         ensures { HasRun tickets.now.row book.now self.new }

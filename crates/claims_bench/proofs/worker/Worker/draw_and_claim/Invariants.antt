@@ -1,5 +1,5 @@
 use Rattle.std.proofs.Common.{◌≡◌, ◌-◌, length}
-use Rattle.claims_bench.proofs.worker.Worker.run.Given as goal
+use Rattle.claims_bench.proofs.worker.Worker.draw_and_claim.Given as goal
 
 abbrev pub invariant-loop-row_no : goal.invariant-loop-row_no
 invariant-loop-row_no l = (l.self.seat.row ≡ l.fn.self.seat.row) × (l.self.pass.book ≡ l.fn.self.pass.book)
