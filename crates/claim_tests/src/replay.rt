@@ -35,7 +35,7 @@ fn entries(alloc: Global, claims: &[(u32, Option<u32>)]) -> Result<Vec<Entry>, F
 
 // The place of the first illegal claim, where there are two donors, each given once, and four rows. None
 // where all are legal.
-fn illegal(alloc: Global, claims: &[(u32, Option<u32>)]) -> Result<Option<usize>, Fail>
+fn illegal_place(alloc: Global, claims: &[(u32, Option<u32>)]) -> Result<Option<usize>, Fail>
     requires { All (λ claim. claim.0 < 4) claims.now }
 {
     Ok(first_illegal(alloc, &entries(alloc, claims)?, 1, 2, 4)?)
@@ -46,11 +46,11 @@ fn illegal(alloc: Global, claims: &[(u32, Option<u32>)]) -> Result<Option<usize>
 #[test]
 fn the_first_illegal_claim_is_told(rt: HostRuntime) -> Result<(), Fail> {
     let alloc = rt.alloc();
-    let legal = illegal(alloc, &[(3, Some(1)), (0, Some(0)), (1, None)])?;
-    let used_up = illegal(alloc, &[(3, Some(1)), (0, Some(1)), (1, None)])?;
-    let one_is_free = illegal(alloc, &[(3, Some(1)), (0, None), (1, None)])?;
-    let row_twice = illegal(alloc, &[(3, Some(1)), (0, Some(0)), (3, None)])?;
-    let no_donor = illegal(alloc, &[(3, Some(2)), (0, Some(0))])?;
+    let legal = illegal_place(alloc, &[(3, Some(1)), (0, Some(0)), (1, None)])?;
+    let used_up = illegal_place(alloc, &[(3, Some(1)), (0, Some(1)), (1, None)])?;
+    let one_is_free = illegal_place(alloc, &[(3, Some(1)), (0, None), (1, None)])?;
+    let row_twice = illegal_place(alloc, &[(3, Some(1)), (0, Some(0)), (3, None)])?;
+    let no_donor = illegal_place(alloc, &[(3, Some(2)), (0, Some(0))])?;
     assert!(rt; legal.is_none());
     assert_eq!(rt; used_up, Some(1));
     assert_eq!(rt; one_is_free, Some(1));
