@@ -65,6 +65,7 @@ invariant_of-pass c =
       rw c.note_claim.ensures.uses (length_use c.read_claim.result.reply c.pass.inside.uses.items ∙ inv.8),
       rw c.note_claim.ensures.replies (length-set c.pass.inside.replies.items c.read_claim.result.row_no (Some c.read_claim.result.reply) ∙ inv.9),
       rw (h.seen, c.note_claim.ensures.uses, c.note_claim.ensures.replies) (replay_push seen c.pass.inside.uses.items c.pass.inside.replies.items
-          c.read_claim.result inv.10 (in_tables c.pass.inside.terms c.pass.inside.uses.items c.pass.inside.replies.items c.read_claim.result inv.8 inv.9 h.within) h.first),
+          c.read_claim.result inv.10
+          (in_tables c.pass.inside.terms c.pass.inside.uses.items c.pass.inside.replies.items c.read_claim.result inv.8 inv.9 h.within) h.first),
       placed_is c,
     )
