@@ -60,7 +60,7 @@ impl<'a> Command<'a> {
                 }),
                 None => Err(PartFault::from(Kind::Command)),
             },
-            ["yes", text, "|", "head", "-n", count, name] => repeated(text, count, name),
+            ["yes", text, "|", "head", "-n", count, name] => repeat_command(text, count, name),
             ["cat", name] => Ok(Command::Show { name: *name }),
             ["cp", old, new] => Ok(Command::Copy {
                 old: *old,
@@ -74,7 +74,7 @@ impl<'a> Command<'a> {
                 edits: edits_of(alloc, scripts)?,
                 name: *name,
             }),
-            _ => own::<C>(alloc, words),
+            _ => own_command::<C>(alloc, words),
         }
     }
 
@@ -92,7 +92,10 @@ impl<'a> Command<'a> {
 
 // The command of these words among `C`'s, which are the program's own. `Kind::Command` where it has
 // none.
-fn own<'a, C: Commands>(alloc: Global, words: &[&'a str]) -> Result<Command<'a>, PartFault> {
+fn own_command<'a, C: Commands>(
+    alloc: Global,
+    words: &[&'a str],
+) -> Result<Command<'a>, PartFault> {
     match C::role_of(words) {
         Some(role) => Ok(Command::Own {
             words: words.to_vec(alloc)?,
@@ -104,7 +107,7 @@ fn own<'a, C: Commands>(alloc: Global, words: &[&'a str]) -> Result<Command<'a>,
 
 // The command that writes a file of `count` lines, each this text. `name` is the word for the file, which
 // has a `>` in front. `Kind::Command` where a word is not in form.
-fn repeated<'a>(text: &'a str, count: &str, name: &'a str) -> Result<Command<'a>, PartFault> {
+fn repeat_command<'a>(text: &'a str, count: &str, name: &'a str) -> Result<Command<'a>, PartFault> {
     match (number_of(count), name.strip_prefix('>')) {
         (Some(count), Some(name)) => Ok(Command::Repeat { text, count, name }),
         _ => Err(PartFault::from(Kind::Command)),

@@ -43,16 +43,16 @@ pub fn difference(
         .count();
     let mut lines = Vec::new(alloc);
     for line in &expected[..expected.len().saturating_sub(tail)] {
-        lines.push(marked(alloc, b'-', line)?)?;
+        lines.push(marked_line(alloc, b'-', line)?)?;
     }
     for line in &came[..came.len().saturating_sub(tail)] {
-        lines.push(marked(alloc, b'+', line)?)?;
+        lines.push(marked_line(alloc, b'+', line)?)?;
     }
     Ok(lines)
 }
 
 // A line with the byte `mark` in front of it.
-fn marked(alloc: Global, mark: u8, line: &[u8]) -> Result<Vec<u8>, OutOfMemory> {
+fn marked_line(alloc: Global, mark: u8, line: &[u8]) -> Result<Vec<u8>, OutOfMemory> {
     let mut text = Vec::new(alloc);
     text.push(mark)?;
     text.extend_from_slice(line)?;

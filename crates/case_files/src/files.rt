@@ -1,7 +1,7 @@
 //! Files in memory, and the commands that make, show and change them. Each command answers the lines of
 //! its output, as they are spelled.
 
-use crate::line_edits::{LineEdit, edited, line_count};
+use crate::line_edits::{LineEdit, edit_lines, line_count};
 use crate::spelling::spelled_lines;
 use foundation::OutOfMemory;
 use std::alloc::Global;
@@ -41,7 +41,7 @@ impl Files {
     }
 
     /// Puts the bytes under the name, in the place of what stood there. The output has no lines.
-    pub(crate) fn put(
+    pub(crate) fn write(
         &mut self,
         alloc: Global,
         name: &str,
@@ -55,7 +55,7 @@ impl Files {
     pub(crate) fn show(&self, alloc: Global, name: &str) -> Result<Vec<Vec<u8>>, OutOfMemory> {
         match self.bytes(name) {
             Some(bytes) => spelled_lines(alloc, bytes),
-            None => missing(alloc, "cat", name),
+            None => no_such_file(alloc, "cat", name),
         }
     }
 
@@ -69,9 +69,9 @@ impl Files {
     ) -> Result<Vec<Vec<u8>>, OutOfMemory> {
         let bytes = match self.bytes(old) {
             Some(bytes) => bytes.to_vec(alloc)?,
-            None => return missing(alloc, "cp", old),
+            None => return no_such_file(alloc, "cp", old),
         };
-        self.put(alloc, new, bytes)
+        self.write(alloc, new, bytes)
     }
 
     /// Takes these files away, in order. The first that is not there ends the command, and the output
@@ -83,7 +83,7 @@ impl Files {
     ) -> Result<Vec<Vec<u8>>, OutOfMemory> {
         for name in names {
             if self.named.remove(*name).is_none() {
-                return missing(alloc, "rm", name);
+                return no_such_file(alloc, "rm", name);
             }
         }
         Ok(Vec::new(alloc))
@@ -107,21 +107,21 @@ impl Files {
         name: &str,
     ) -> Result<Vec<Vec<u8>>, OutOfMemory> {
         let Some(bytes) = self.bytes(name) else {
-            return missing(alloc, "sed", name);
+            return no_such_file(alloc, "sed", name);
         };
         let count = line_count(bytes);
         if let Some(edit) = edits.iter().find(|edit| edit.line() > count) {
             let line = edit.line();
             let text = format!(in alloc; "sed: {name}: no line {line}")?;
-            return failing(alloc, text, 1);
+            return failure_lines(alloc, text, 1);
         }
-        let bytes = edited(alloc, bytes, edits)?;
-        self.put(alloc, name, bytes)
+        let bytes = edit_lines(alloc, bytes, edits)?;
+        self.write(alloc, name, bytes)
     }
 }
 
 /// The bytes of `count` equal lines of this text.
-pub(crate) fn repeated(alloc: Global, text: &str, count: u64) -> Result<Vec<u8>, OutOfMemory> {
+pub(crate) fn equal_lines(alloc: Global, text: &str, count: u64) -> Result<Vec<u8>, OutOfMemory> {
     let mut bytes = Vec::new(alloc);
     for _ in 0..count {
         bytes.extend_from_slice(text.as_bytes())?;
@@ -131,13 +131,13 @@ pub(crate) fn repeated(alloc: Global, text: &str, count: u64) -> Result<Vec<u8>,
 }
 
 /// The output of a command that finds no file of this name, with the status 1.
-pub fn missing(alloc: Global, command: &str, name: &str) -> Result<Vec<Vec<u8>>, OutOfMemory> {
+pub fn no_such_file(alloc: Global, command: &str, name: &str) -> Result<Vec<Vec<u8>>, OutOfMemory> {
     let text = format!(in alloc; "{command}: {name}: no such file")?;
-    failing(alloc, text, 1)
+    failure_lines(alloc, text, 1)
 }
 
 /// The output of a command that fails: the text, and then the status in square brackets.
-pub fn failing(alloc: Global, text: String, status: u8) -> Result<Vec<Vec<u8>>, OutOfMemory> {
+pub fn failure_lines(alloc: Global, text: String, status: u8) -> Result<Vec<Vec<u8>>, OutOfMemory> {
     let mut lines = Vec::new(alloc);
     lines.push(text.into_bytes())?;
     lines.push(format!(in alloc; "[{status}]")?.into_bytes())?;

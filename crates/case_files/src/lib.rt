@@ -20,7 +20,7 @@ mod words;
 mod workplace;
 
 pub use commands::{Commands, Role};
-pub use files::{Files, failing, missing};
+pub use files::{Files, failure_lines, no_such_file};
 pub use numbers::number_of;
 pub use program::run_program;
 pub use spelling::spelled_lines;

@@ -38,7 +38,7 @@ impl LineEdit {
                 change: Change::Delete,
             });
         };
-        let text = text_of(alloc, text)?;
+        let text = unescaped_line(alloc, text)?;
         if let Some(line) = head.strip_suffix('c') {
             return Ok(LineEdit {
                 line: line_number(line, 1)?,
@@ -70,7 +70,7 @@ fn line_number(text: &str, least: u64) -> Result<u64, Kind> {
 
 // The bytes of an escaped text, with a line feed behind them. `Kind::Spelling` where the text is out of
 // form.
-fn text_of(alloc: Global, text: &str) -> Result<Vec<u8>, PartFault> {
+fn unescaped_line(alloc: Global, text: &str) -> Result<Vec<u8>, PartFault> {
     let mut bytes = Vec::new(alloc);
     read_escaped(&mut bytes, text.as_bytes())?;
     bytes.push(b'\n')?;
@@ -85,25 +85,25 @@ pub fn line_count(bytes: &[u8]) -> u64 {
 /// The bytes with these changes of their lines. The numbers are those of the lines as they are before any
 /// change. Of two changes that leave out or take the place of one line, the first holds; texts behind one
 /// line all stand there, in order. A change of a line that is not there does nothing.
-pub fn edited(alloc: Global, bytes: &[u8], edits: &[LineEdit]) -> Result<Vec<u8>, OutOfMemory> {
+pub fn edit_lines(alloc: Global, bytes: &[u8], edits: &[LineEdit]) -> Result<Vec<u8>, OutOfMemory> {
     let mut new = Vec::new(alloc);
-    append(&mut new, edits, 0)?;
+    append_texts(&mut new, edits, 0)?;
     for (index, line) in bytes.split_inclusive(|byte| *byte == b'\n').enumerate() {
         let number = (index as u64).saturating_add(1);
         match edits
             .iter()
-            .find(|edit| edit.line == number && edit.is_of_line())
+            .find(|edit| edit.line == number && edit.removes_line())
         {
             None => new.extend_from_slice(line)?,
             Some(edit) => new.extend_from_slice(edit.text())?,
         }
-        append(&mut new, edits, number)?;
+        append_texts(&mut new, edits, number)?;
     }
     Ok(new)
 }
 
 // Appends the texts that are to stand behind the line of this number, each on lines of its own.
-fn append(new: &mut Vec<u8>, edits: &[LineEdit], number: u64) -> Result<(), OutOfMemory> {
+fn append_texts(new: &mut Vec<u8>, edits: &[LineEdit], number: u64) -> Result<(), OutOfMemory> {
     for edit in edits {
         if let Change::Append { text } = &edit.change
             && edit.line == number
@@ -126,7 +126,7 @@ fn end_line(new: &mut Vec<u8>) -> Result<(), OutOfMemory> {
 
 impl LineEdit {
     // Whether the change leaves the line itself out, or puts another text in its place.
-    fn is_of_line(&self) -> bool {
+    fn removes_line(&self) -> bool {
         !matches!(self.change, Change::Append { .. })
     }
 

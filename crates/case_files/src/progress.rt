@@ -89,7 +89,7 @@ impl Progress {
     }
 
     /// How many cases were begun, where no output was wrong, and None where one was.
-    pub fn whole(self) -> Option<u64>
+    pub fn cases_if_right(self) -> Option<u64>
         ensures { IsSome result ↔ self.failed ≡ 0 }
     {
         if self.failed == 0 {

@@ -37,7 +37,7 @@ pub fn run_files<C: Commands, R: Threads + Wait + Sync, D: Desk, P: Printer>(
     }
     let passed = count.passed;
     let failed = count.failed;
-    tell(
+    print_line(
         printer,
         &format!(in alloc; "{passed} passed, {failed} failed")?,
     )?;
@@ -45,13 +45,13 @@ pub fn run_files<C: Commands, R: Threads + Wait + Sync, D: Desk, P: Printer>(
 }
 
 // Prints a line, which is given without its line feed. `Fault::Unprinted` where that fails.
-fn tell<P: Printer>(printer: &mut P, line: &str) -> Result<(), Fault> {
+fn print_line<P: Printer>(printer: &mut P, line: &str) -> Result<(), Fault> {
     Ok(printer.line(line.as_bytes())?)
 }
 
 // Prints that a file could not be read, and counts it as one case that failed.
 fn refuse_file<P: Printer>(alloc: Global, name: &str, printer: &mut P) -> Result<Count, Fault> {
-    tell(printer, &format!(in alloc; "{name}: not read")?)?;
+    print_line(printer, &format!(in alloc; "{name}: not read")?)?;
     Ok(Count::one_failed())
 }
 
@@ -65,7 +65,7 @@ fn refuse_form<P: Printer>(
     printer: &mut P,
 ) -> Result<Count, Fault> {
     let why = kind.text();
-    tell(printer, &format!(in alloc; "{name}:{number}: {why}")?)?;
+    print_line(printer, &format!(in alloc; "{name}:{number}: {why}")?)?;
     Ok(Count::one_failed())
 }
 
@@ -105,8 +105,8 @@ fn run_steps<C: Commands, R: Threads + Wait + Sync, P: Printer>(
         }
         progress.note(step.command.begins_case(), is_right);
     }
-    if let Some(cases) = progress.whole() {
-        tell(printer, &format!(in alloc; "{name}: {cases} cases")?)?;
+    if let Some(cases) = progress.cases_if_right() {
+        print_line(printer, &format!(in alloc; "{name}: {cases} cases")?)?;
     }
     Ok(progress.count())
 }
@@ -122,7 +122,7 @@ fn show_difference<P: Printer>(
 ) -> Result<(), Fault> {
     let number = step.number;
     let text = step.text;
-    tell(printer, &format!(in alloc; "{name}:{number}: {text}")?)?;
+    print_line(printer, &format!(in alloc; "{name}:{number}: {text}")?)?;
     for line in &difference(alloc, &step.expected, came)? {
         printer.line(line)?;
     }

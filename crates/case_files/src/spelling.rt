@@ -40,7 +40,7 @@ fn spelled_line(alloc: Global, line: &[u8], ended: bool) -> Result<Vec<u8>, OutO
         text.extend_from_slice(line)?;
     } else {
         for byte in line {
-            spell(&mut text, *byte)?;
+            spell_byte(&mut text, *byte)?;
         }
         text.extend_from_slice(ESCAPED)?;
     }
@@ -76,7 +76,7 @@ fn is_printable(byte: u8) -> bool
 }
 
 // Appends a byte of a line that is escaped: a doubled backslash, the byte itself, or `\xNN`.
-fn spell(text: &mut Vec<u8>, byte: u8) -> Result<(), OutOfMemory>
+fn spell_byte(text: &mut Vec<u8>, byte: u8) -> Result<(), OutOfMemory>
     ensures { OnOk result (text.new.items ≡ text.old.items ++ byte_spelling byte) }
 {
     if byte == b'\\' {

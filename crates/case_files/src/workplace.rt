@@ -3,7 +3,7 @@
 
 use crate::command::Command;
 use crate::commands::Commands;
-use crate::files::{Files, repeated};
+use crate::files::{Files, equal_lines};
 use foundation::OutOfMemory;
 use std::alloc::Global;
 use std::sync::Wait;
@@ -35,10 +35,10 @@ impl<C: Commands> Workplace<C> {
         command: &Command,
     ) -> Result<Vec<Vec<u8>>, OutOfMemory> {
         match command {
-            Command::Write { name, bytes } => self.files.put(alloc, name, bytes.to_vec(alloc)?),
+            Command::Write { name, bytes } => self.files.write(alloc, name, bytes.to_vec(alloc)?),
             Command::Repeat { text, count, name } => {
-                let bytes = repeated(alloc, text, *count)?;
-                self.files.put(alloc, name, bytes)
+                let bytes = equal_lines(alloc, text, *count)?;
+                self.files.write(alloc, name, bytes)
             }
             Command::Show { name } => self.files.show(alloc, name),
             Command::Copy { old, new } => self.files.copy(alloc, old, new),

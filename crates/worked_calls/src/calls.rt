@@ -2,7 +2,7 @@
 //! is the output of the command.
 
 use crate::ranking::{Asked, measured_told, rank_told};
-use case_files::{Commands, Files, Role, failing};
+use case_files::{Commands, Files, Role, failure_lines};
 use foundation::OutOfMemory;
 use line_calls::{
     CallFault, Texts, boxes_told, bytes_in, dropped_told, lines_told, negations_told, number_in,
@@ -45,7 +45,7 @@ impl Commands for Calls {
         match told(alloc, files, words) {
             Ok(texts) => Ok(texts),
             Err(CallFault::OutOfMemory) => Err(OutOfMemory),
-            Err(fault) => failing(alloc, format!(in alloc; "{fault}")?, 1),
+            Err(fault) => failure_lines(alloc, format!(in alloc; "{fault}")?, 1),
         }
     }
 }
