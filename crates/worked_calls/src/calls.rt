@@ -42,7 +42,7 @@ impl Commands for Calls {
         files: &mut Files,
         words: &[&str],
     ) -> Result<Vec<Vec<u8>>, OutOfMemory> {
-        match told(alloc, files, words) {
+        match call_told(alloc, files, words) {
             Ok(texts) => Ok(texts),
             Err(CallFault::OutOfMemory) => Err(OutOfMemory),
             Err(fault) => failure_lines(alloc, format!(in alloc; "{fault}")?, 1),
@@ -73,7 +73,7 @@ fn is_call(word: &str) -> bool {
 
 // What the call of these words answers. `CallFault::Words` where its name stands alone, or it takes other
 // words.
-fn told(alloc: Global, files: &Files, words: &[&str]) -> Result<Texts, CallFault> {
+fn call_told(alloc: Global, files: &Files, words: &[&str]) -> Result<Texts, CallFault> {
     match words {
         [name @ ("rank" | "measured"), rules, records, others @ ..] => {
             donors_told(alloc, files, name, rules, records, others)

@@ -1,4 +1,4 @@
 use Rattle.worked_calls.proofs.ranking.found_in.Given as goal
 
-abbrev pub ghosts-nearest : goal.ghosts-nearest
-ghosts-nearest a = record { name = a.blank.name; parts = a.blank.parts }
+abbrev pub ghosts-nearest_donors : goal.ghosts-nearest_donors
+ghosts-nearest_donors a = record { name = a.blank.name; parts = a.blank.parts }

@@ -11,7 +11,7 @@ use Rattle.donor_search.specs.CleanRows.{IsRankable, row_at}
 use Rattle.donor_search.specs.Decks.{IsDeckOf}
 use Rattle.donor_search.proofs.CleanLaws.{is_row_at}
 use Rattle.donor_search.proofs.DonorLaws.{has_kept}
-use Rattle.worked_calls.proofs.ranking.nearest.Goals as goal
+use Rattle.worked_calls.proofs.ranking.nearest_donors.Goals as goal
 
 row-is : (fields : List Field) (rows : List (List Value)) (row_no : ℕ) (row : List Value)
     → AllByRecursion (IsRow fields) rows → row_no < length rows → row ≡ row_at rows row_no → IsRow fields row
