@@ -58,9 +58,9 @@ impl Commands for Runs {
                 self.failing_line = Some(number);
                 Ok(Vec::new(alloc))
             }
-            Some(Own::Run { words }) => self.run(rt, alloc, files, words),
-            Some(Own::Words { words }) => told(alloc, words),
-            Some(Own::Calls) => copied(alloc, &self.calls),
+            Some(Own::Run { words }) => self.run_command_line(rt, alloc, files, words),
+            Some(Own::Words { words }) => words_told(alloc, words),
+            Some(Own::Calls) => copy_lines(alloc, &self.calls),
         }
     }
 }
@@ -68,14 +68,14 @@ impl Commands for Runs {
 impl Runs {
     // Runs the program over the files, that of pages where the first word is `page`. The output is what
     // it prints and, where it is not 0, its status. The failures that were asked for are used up by it.
-    fn run<R: Threads + Wait + Sync>(
+    fn run_command_line<R: Threads + Wait + Sync>(
         &mut self,
         rt: &R,
         alloc: Global,
         files: &mut Files,
         words: &[&str],
     ) -> Result<Vec<Vec<u8>>, OutOfMemory> {
-        let words = owned(alloc, words)?;
+        let words = copy_words(alloc, words)?;
         let failures = mem::replace(&mut self.failures, Vec::new(alloc));
         let mut printer = MemoryPrinter::new(alloc, self.failing_line.take())?;
         let mut desk = MemoryDesk::new(alloc, files.take(alloc), failures);
@@ -97,13 +97,13 @@ impl Runs {
 }
 
 // The line that tells what the words ask for, as the output of `words`.
-fn told(alloc: Global, words: &[&str]) -> Result<Vec<Vec<u8>>, OutOfMemory> {
-    let line = asked_line(alloc, &owned(alloc, words)?)?;
+fn words_told(alloc: Global, words: &[&str]) -> Result<Vec<Vec<u8>>, OutOfMemory> {
+    let line = asked_line(alloc, &copy_words(alloc, words)?)?;
     spelled_lines(alloc, &line)
 }
 
 // Copies of the words, each in memory of its own, as the program takes them.
-fn owned(alloc: Global, words: &[&str]) -> Result<Vec<String>, AllocError> {
+fn copy_words(alloc: Global, words: &[&str]) -> Result<Vec<String>, AllocError> {
     let mut all = Vec::new(alloc);
     for word in words {
         all.push(String::from_str(alloc, word)?)?;
@@ -125,7 +125,7 @@ fn call_lines(alloc: Global, calls: &[Call]) -> Result<Vec<Vec<u8>>, OutOfMemory
 }
 
 // Copies of these lines.
-fn copied(alloc: Global, lines: &[Vec<u8>]) -> Result<Vec<Vec<u8>>, OutOfMemory> {
+fn copy_lines(alloc: Global, lines: &[Vec<u8>]) -> Result<Vec<Vec<u8>>, OutOfMemory> {
     let mut all = Vec::new(alloc);
     for line in lines {
         all.push(line.to_vec(alloc)?)?;
