@@ -86,7 +86,8 @@ pub fn measured_told(
 
 // What is found of the donors of the record that is asked for, in the record file of these bytes.
 // `CallFault::Path` and `Field` where the path or the class field is none, and `Number` where a number
-// has more than 32 bits. `Record` where the file has no reading; else the faults are those of `nearest_donors`.
+// has more than 32 bits. `Record` where the file has no reading; else the faults are those of
+// `nearest_donors`.
 fn found_in(
     alloc: Global,
     survey: &Survey,
@@ -102,15 +103,7 @@ fn found_in(
     let Ok(sheet) = read_records(alloc, survey, records) else {
         return Err(CallFault::Record);
     };
-    nearest_donors::<Brand>(
-        alloc,
-        survey,
-        &sheet,
-        &path,
-        row_no,
-        among,
-        Blank::new(1),
-    )
+    nearest_donors::<Brand>(alloc, survey, &sheet, &path, row_no, among, Blank::new(1))
 }
 
 // The number of the field that is named as the class field, from 0, and None where none is named.
