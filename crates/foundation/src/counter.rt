@@ -23,9 +23,9 @@ impl<L: Ledger> Model for Steps<L> {
 }
 
 impl<L: Ledger> Steps<L> {
-    /// A counter at 0, from a blank of the ledger `L` that is not yet used. The blank has the ledger's
-    /// name, and its number of parts, which is not 0. A ledger is the standard library's account of
-    /// numbers that contracts alone see. A caller that counts nothing passes `Blank::new(1)`.
+    /// A counter at 0. It is made of a blank of the ledger `L`, which has the ledger's name and its number
+    /// of parts, not 0. A ledger is the standard library's account of numbers that contracts alone see. A
+    /// caller that counts nothing passes `Blank::new(1)`. No memory.
     pub fn start(blank: Blank) -> Self
         requires name { blank.name ≡ L.name }
         requires parts { blank.parts ≡ L.parts }
@@ -36,7 +36,7 @@ impl<L: Ledger> Steps<L> {
         Steps { book, share }
     }
 
-    /// Counts one step. It costs nothing when the program runs.
+    /// Counts one step. It costs nothing when the program runs. No memory.
     pub fn tick(&mut self)
         ensures { self.new ≡ self.old + 1 }
     {

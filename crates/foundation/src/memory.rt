@@ -11,7 +11,7 @@ impl fmt::Display for OutOfMemory {
 
     ghost output = { λ _. Some (codes "out of memory") };
 
-    // Writes what is printed of the refusal, without a line feed.
+    // Writes the words that are printed where memory was refused, without a line feed.
     fn fmt<W: fmt::Write>(&self, f: &mut fmt::Formatter<W>) -> fmt::Result {
         f.write_str("out of memory")
     }
