@@ -6,7 +6,7 @@ use Rattle.fraction128.specs.Arithmetic.{sum_of_quotients}
 use Rattle.fraction128.specs.Divisor.{int_gcd}
 use Rattle.fraction128.specs.declared.fraction.Fraction.{Fraction}
 
--- p over q
+-- a fraction as two numbers, which need not be in range or in lowest terms
 pub record Ratio : Type 0 where
   pub numerator : ℤ
   pub denominator : ℤ

@@ -1,5 +1,7 @@
 //! Greatest common divisors, and numbers divided by them, with which fractions are reduced. A number is in
-//! range where its absolute value is at most 2^127 - 1.
+//! range where its absolute value is at most 2^127 - 1. In contracts, `IsGcd` says that the last of three
+//! numbers is the greatest common divisor of the other two. `int_gcd` is the same as a formula, and
+//! `int_div` a quotient rounded toward zero.
 ghost use Rattle.std.specs.Prelude.{◌≡◌, ◌≢◌, pos, ◌<ℤ◌, unsigned_abs, int_div};
 ghost use Rattle.std.specs.Int.{IsGcd};
 ghost use Rattle.fraction128.specs.Divisor.{gcd, int_gcd};
@@ -16,7 +18,8 @@ pub fn gcd(a: i128, b: i128) -> i128
     gcd_of_sizes(a.unsigned_abs(), b.unsigned_abs()) as i128
 }
 
-/// The greatest common divisor of two sizes, by Euclid's remainders; 0 for two zeros.
+/// The greatest common divisor of two numbers without sign, by Euclid's remainders; 0 for two zeros. It
+/// does the work of `gcd`.
 fn gcd_of_sizes(a: u128, b: u128) -> u128
     ensures { result ≡ gcd a b }
 {
@@ -38,7 +41,8 @@ pub(crate) struct Cofactors {
 }
 
 impl Cofactors {
-    /// The cofactors of two numbers in range. The second is not 0, so that the divisor is above 0.
+    /// Both numbers, each divided by their greatest common divisor. They are in range, and the second is
+    /// not 0, so that the divisor is above 0.
     pub(crate) fn of(a: i128, b: i128) -> Cofactors
         requires a_in_range { InRange a }
         requires b_in_range { InRange b }
@@ -54,7 +58,8 @@ impl Cofactors {
     }
 }
 
-/// The quotient by a positive divisor, rounded toward zero.
+/// `a` divided by a positive divisor, rounded toward zero. `Cofactors::of` divides by a common divisor, so
+/// that there nothing is rounded.
 fn quotient(a: i128, divisor: i128) -> i128
     requires { pos 0 <ℤ divisor }
     ensures { result ≡ int_div a divisor }

@@ -67,7 +67,8 @@ impl Fraction {
         self.denominator
     }
 
-    /// Whether the denominator is 1. Sums and products of such fractions go shorter ways.
+    /// Whether the fraction is a whole number: its denominator is 1. Sums and products of such fractions go
+    /// shorter ways.
     fn is_whole(&self) -> bool
         ensures { result ≡ true → self.now.denominator ≡ pos 1 }
     {
@@ -89,7 +90,8 @@ impl Fraction {
         }
     }
 
-    /// The fraction with the other sign. It is always in range, since -2^127 is no numerator.
+    /// The fraction with the other sign, for differences and negative divisors. It is always in range,
+    /// since -2^127 is no numerator.
     fn negated(self) -> Fraction
         ensures numerator { result.numerator ≡ neg_ℤ self.numerator }
         ensures denominator { result.denominator ≡ self.denominator }

@@ -11,7 +11,7 @@ impl fmt::Display for Overflow {
 
     ghost output = { λ _. Some (codes "a number is out of range") };
 
-    // Writes what is printed of the fault, without a line feed.
+    // Writes the words that are printed of an overflow, without a line feed.
     fn fmt<W: fmt::Write>(&self, f: &mut fmt::Formatter<W>) -> fmt::Result {
         f.write_str("a number is out of range")
     }

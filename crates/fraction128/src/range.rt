@@ -6,8 +6,8 @@ ghost use Rattle.fraction128.specs.Range.{InRange, AllInRange};
 
 use crate::Overflow;
 
-/// The product of two numbers, or Overflow exactly where it is out of range. Two numbers of 64 bits go a
-/// way of their own, for speed: their product always fits, so the compiler can leave the check out.
+/// The product of two whole numbers, or Overflow exactly where it is out of range. Two numbers of 64 bits
+/// go a way of their own, for speed: their product always fits, so the compiler can leave the check out.
 #[inline(always)]
 pub(crate) fn product_in_range(a: i128, b: i128) -> Result<i128, Overflow>
     ensures { OkIff result (InRange (a *ℤ b)) (a *ℤ b) }
@@ -18,7 +18,8 @@ pub(crate) fn product_in_range(a: i128, b: i128) -> Result<i128, Overflow>
     }
 }
 
-/// The product of any two numbers, or Overflow exactly where it is out of range, as -2^127 is.
+/// The same product for both ways of `product_in_range`, or Overflow exactly where it is out of range, as
+/// -2^127 is.
 #[inline(always)]
 fn product_of(a: i128, b: i128) -> Result<i128, Overflow>
     ensures { OkIff result (InRange (a *ℤ b)) (a *ℤ b) }
@@ -29,7 +30,8 @@ fn product_of(a: i128, b: i128) -> Result<i128, Overflow>
     }
 }
 
-/// The sum of two numbers, or Overflow exactly where it is out of range, as -2^127 is.
+/// The sum of two whole numbers, or Overflow exactly where it is out of range, as -2^127 is. Sums of
+/// fractions are made of it.
 #[inline(always)]
 pub(crate) fn sum_in_range(a: i128, b: i128) -> Result<i128, Overflow>
     ensures { OkIff result (InRange (a +ℤ b)) (a +ℤ b) }
@@ -40,7 +42,8 @@ pub(crate) fn sum_in_range(a: i128, b: i128) -> Result<i128, Overflow>
     }
 }
 
-/// `a * b + c * d`, or Overflow exactly where one of the products or their sum is out of range.
+/// `a * b + c * d`, or Overflow exactly where one of the products or their sum is out of range. It is the
+/// numerator of a sum of fractions before that is reduced.
 pub(crate) fn sum_of_products(a: i128, b: i128, c: i128, d: i128) -> Result<i128, Overflow>
     ensures value { IfOk result (λ sum. sum ≡ a *ℤ b +ℤ c *ℤ d) }
     ensures fits { OnOk result (AllInRange ((a *ℤ b) ∷ (c *ℤ d) ∷ (a *ℤ b +ℤ c *ℤ d) ∷ [])) }

@@ -8,11 +8,13 @@ use std::test::Fail;
 /// The greatest number in range.
 const MOST: i128 = i128::MAX;
 
+/// The fraction that the text spells. The test fails where the text spells none.
 fn fraction(rt: &impl Abort, text: &str) -> Fraction {
     Fraction::read_text(text.as_bytes()).expect(rt, "a canonical spelling")
 }
 
-/// Asserts that the answer is the fraction that the text spells, or an overflow.
+/// Asserts that the answer is the fraction that the text spells, or an overflow where the text is
+/// `overflow`.
 fn expect(rt: &impl Abort, answer: Result<Fraction, Overflow>, text: &str) {
     match answer {
         Ok(x) => assert!(rt; Fraction::read_text(text.as_bytes()) == Some(x)),
@@ -20,7 +22,8 @@ fn expect(rt: &impl Abort, answer: Result<Fraction, Overflow>, text: &str) {
     }
 }
 
-/// Two fractions, their sum, the first without the second, and their middle.
+/// Two fractions, their sum, the first without the second, and their middle; `overflow` where the call
+/// refuses.
 const SUMS: [(&str, &str, &str, &str, &str); 9] = [
     ("0", "0", "0", "0", "0"),
     ("0", "1", "1", "-1", "1/2"),
@@ -64,6 +67,7 @@ const SUMS: [(&str, &str, &str, &str, &str); 9] = [
     ),
 ];
 
+/// Asserts of each case that its sum, difference and middle are as it says.
 fn add_all(rt: &impl Abort, cases: &[(&str, &str, &str, &str, &str)]) {
     for (left, right, sum, difference, middle) in cases {
         let (x, y) = (fraction(rt, left), fraction(rt, right));
@@ -73,12 +77,14 @@ fn add_all(rt: &impl Abort, cases: &[(&str, &str, &str, &str, &str)]) {
     }
 }
 
+/// Sums, differences and middles, of small numbers and at the ends of the range.
 #[test]
 fn sums_differences_and_middles(rt: HostRuntime) {
     add_all(&rt, &SUMS)
 }
 
-/// A fraction, a whole number, the product with it and the quotient by it.
+/// A fraction, a whole number, the product with it and the quotient by it; `overflow` where the call
+/// refuses. There is no quotient by 0.
 const PRODUCTS: [(&str, i64, &str, &str); 6] = [
     ("0", 5, "0", "0"),
     ("3/4", 6, "9/2", "1/8"),
@@ -98,6 +104,7 @@ const PRODUCTS: [(&str, i64, &str, &str); 6] = [
     ),
 ];
 
+/// Asserts of each case that its product and its quotient are as it says.
 fn scale_all(rt: &impl Abort, cases: &[(&str, i64, &str, &str)]) {
     for (text, number, product, quotient) in cases {
         let x = fraction(rt, text);
@@ -108,12 +115,13 @@ fn scale_all(rt: &impl Abort, cases: &[(&str, i64, &str, &str)]) {
     }
 }
 
+/// Products and quotients, with either sign and at the ends of the range.
 #[test]
 fn products_and_quotients_by_whole_numbers(rt: HostRuntime) {
     scale_all(&rt, &PRODUCTS)
 }
 
-/// Two fractions and their order.
+/// Two fractions, and how the first compares with the second.
 const ORDERS: [(&str, &str, Ordering); 6] = [
     ("0", "0", Ordering::Equal),
     ("1/3", "2/7", Ordering::Greater),
@@ -128,17 +136,20 @@ const ORDERS: [(&str, &str, Ordering); 6] = [
     ),
 ];
 
+/// Asserts of each case that its fractions compare as it says.
 fn compare_all(rt: &impl Abort, cases: &[(&str, &str, Ordering)]) {
     for (left, right, order) in cases {
         assert!(rt; fraction(rt, left).compare(fraction(rt, right)) == *order);
     }
 }
 
+/// Fractions compare exactly, also where their cross products have more than 128 bits.
 #[test]
 fn the_order_of_fractions(rt: HostRuntime) {
     compare_all(&rt, &ORDERS)
 }
 
+/// Greatest common divisors have no sign, and 0 is that of two zeros. A fraction is reduced.
 #[test]
 fn common_divisors_and_lowest_terms(rt: HostRuntime) {
     assert!(rt; gcd(12, -18) == 6 && gcd(0, -5) == 5 && gcd(0, 0) == 0 && gcd(-MOST, MOST) == MOST);
@@ -156,6 +167,7 @@ const SPELLINGS: [(&str, i128, i128); 7] = [
     ("1/170141183460469231731687303715884105727", 1, MOST),
 ];
 
+/// Asserts of each text that it is read as its two numbers, and that these are written as the text.
 fn spell_all(rt: &impl Abort, alloc: Global, cases: &[(&str, i128, i128)]) -> Result<(), Fail> {
     for (text, numerator, denominator) in cases {
         let x = fraction(rt, text);
@@ -165,6 +177,7 @@ fn spell_all(rt: &impl Abort, alloc: Global, cases: &[(&str, i128, i128)]) -> Re
     Ok(())
 }
 
+/// A canonical text is read, and written again as it was.
 #[test]
 fn canonical_texts_both_ways(rt: HostRuntime) -> Result<(), Fail> {
     spell_all(&rt, rt.alloc(), &SPELLINGS)
@@ -190,12 +203,15 @@ const OTHER_TEXTS: [&str; 16] = [
     "1/170141183460469231731687303715884105728",
 ];
 
+/// Asserts of each text that it is read as no fraction.
 fn refuse_all(rt: &impl Abort, texts: &[&str]) {
     for text in texts {
         assert!(rt; Fraction::read_text(text.as_bytes()).is_none());
     }
 }
 
+/// Any other text spells no fraction: one that is not in lowest terms, has a sign or a zero too much, or
+/// has a number out of range.
 #[test]
 fn other_texts_are_refused(rt: HostRuntime) {
     refuse_all(&rt, &OTHER_TEXTS)

@@ -1,4 +1,5 @@
-//! The order of fractions, told without products of their numbers, so that nothing can overflow.
+//! The order of fractions, told without products of their numbers, so that nothing can overflow. In
+//! contracts, `int_cmp` and `nat_cmp` are the order of whole numbers with and without sign.
 ghost use Rattle.std.specs.Prelude.{◌≡◌, ◌<◌, ◌*◌, ◌*ℤ◌};
 ghost use Rattle.std.specs.Ordering.{nat_cmp, int_cmp};
 
@@ -6,8 +7,8 @@ use crate::Fraction;
 use std::cmp::Ordering;
 
 impl Fraction {
-    /// The order of the two fractions a/b and c/d, as `a * d` compares with `c * b`. It is exact and never
-    /// refuses.
+    /// Whether this fraction, a/b, is less than `other`, c/d, equal or greater: as `a * d` compares with
+    /// `c * b`. It is exact and never refuses.
     pub fn compare(self, other: Fraction) -> Ordering
         ensures { result ≡
             int_cmp (self.numerator *ℤ other.denominator) (other.numerator *ℤ self.denominator) }
@@ -23,9 +24,9 @@ impl Fraction {
     }
 }
 
-/// The order of `a/b` and `c/d`, whose denominators are not 0. Whole parts decide. Where they are equal,
-/// what is left of each numerator decides: `r/b` and `s/d` compare as `d/s` and `b/r`. No product is
-/// formed, so none can overflow.
+/// The order of `a/b` and `c/d`, which have no sign and whose denominators are not 0. Whole parts decide.
+/// Where they are equal, the rests `r/b` and `s/d` decide. A rest of 0 is the least; else `r/b` and `s/d`
+/// compare as `d/s` and `b/r` do. No product is formed, so none can overflow.
 fn compare_sizes(a: u128, b: u128, c: u128, d: u128) -> Ordering
     requires first { 0 < b }
     requires second { 0 < d }

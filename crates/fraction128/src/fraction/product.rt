@@ -26,7 +26,8 @@ impl Fraction {
         }
     }
 
-    /// A whole number times a whole number in range; Overflow where the product is out of range.
+    /// The short way of `scale`, for a fraction that is a whole number: no common divisor is looked for.
+    /// Overflow where the product is out of range.
     #[inline(always)]
     fn scale_whole(self, factor: i128) -> Result<Fraction, Overflow>
         requires whole { self.denominator ≡ pos 1 }
@@ -39,7 +40,7 @@ impl Fraction {
         Ok(Fraction::whole(numerator))
     }
 
-    /// Any fraction times a whole number in range; Overflow where the numerator leaves the range. What is
+    /// The long way of `scale`, for any fraction; Overflow where the numerator leaves the range. What is
     /// left of the factor and the denominator has no common divisor, so the product is in lowest terms.
     #[inline(never)]
     fn scale_parts(self, factor: i128) -> Result<Fraction, Overflow>

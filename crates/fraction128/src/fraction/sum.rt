@@ -1,6 +1,6 @@
 //! Sums, differences and middles of fractions. In contracts, `sum_numbers` and `difference_numbers` list
 //! the numbers that [`Fraction::add`] names. `IsSum`, `IsDifference` and `IsMiddle` say that the answer is
-//! exact.
+//! exact. `AllInRange` says that no number of a list is above 2^127 - 1 in absolute value.
 ghost use Rattle.std.specs.Prelude.{◌≡◌, pos, IfOk, OnOk, OnErr};
 ghost use Rattle.fraction128.specs.Arithmetic.{IsSum, IsDifference, IsMiddle, sum_numbers, difference_numbers};
 ghost use Rattle.fraction128.specs.Formulas.{answered, middle, ratio_of};
@@ -26,7 +26,8 @@ impl Fraction {
         }
     }
 
-    /// The sum of two whole numbers; Overflow where it is out of range.
+    /// The short way of `add`, for two fractions that are whole numbers: no common divisor is looked for.
+    /// Overflow where the sum is out of range.
     #[inline(always)]
     fn add_whole(self, other: Fraction) -> Result<Fraction, Overflow>
         requires first { self.denominator ≡ pos 1 }
@@ -39,8 +40,8 @@ impl Fraction {
         Ok(Fraction::whole(numerator))
     }
 
-    /// The sum of any two fractions, which overflows as `add` says. Each numerator is multiplied by the
-    /// other denominator without the common divisor, and the result is reduced.
+    /// The long way of `add`, for any two fractions, which overflows as `add` says. Each numerator is
+    /// multiplied by the other denominator without the common divisor, and the result is reduced.
     #[inline(never)]
     fn add_parts(self, other: Fraction) -> Result<Fraction, Overflow>
         ensures value { IfOk result (λ z. IsSum self other z) }
@@ -58,8 +59,8 @@ impl Fraction {
         Ok(Fraction::reduced(numerator, denominator))
     }
 
-    /// The difference. It overflows exactly where the sum with the negative of `other` does, as `add`
-    /// says.
+    /// This fraction without `other`. It overflows exactly where the sum with the negative of `other` does,
+    /// as `add` says.
     pub fn sub(self, other: Fraction) -> Result<Fraction, Overflow>
         ensures value { IfOk result (λ z. IsDifference self other z) }
         ensures fits { OnOk result (AllInRange (difference_numbers self other)) }
