@@ -1,10 +1,12 @@
 //! Desks: what files are fetched from and stored to. A command is written over any of them, be it the
 //! system's files or files in memory.
 //!
-//! In contracts `Told` is said of what a desk may tell or not, as its files and its calls. Both values are
-//! told and stand in the relation, or neither is told. `Fetches` says what a fetch may answer of such
-//! files, and `Stores` what a store may leave. `fetch_record` and `store_record` are what a call puts on
-//! record: itself, or nothing for want of memory.
+//! A desk tells contracts its files and its calls, as one in memory does, or it tells neither, as that of
+//! the system. `Told` says of the values before and after a call: both are told and stand in the relation,
+//! or neither is told. `Fetches` says what a fetch may answer of such files, and `Stores` what a store may
+//! leave. `fetch_record` and `store_record` are what a call puts on record: itself, or nothing for want of
+//! memory. `after_fetch` and `after_store` are the count of faults, one more where the call failed.
+//! `TakesOneMore` says that a file that is too long is told with one more than the limit.
 ghost use Rattle.std.specs.Prelude.{◌≡◌, ◌≤◌, ◌++◌, ℕ, List, Option, IfErr, IfOk, IfSome, IsErrOf, length};
 ghost use Rattle.edit_desk.specs.Desk.{Files, Asked, Fetches, Stores, Told, TakesOneMore, after_fetch, after_store, fetch_record};
 ghost use Rattle.edit_desk.specs.Desk.{store_record};
@@ -69,12 +71,12 @@ pub trait Desk {
     /// The calls on record, the oldest first, where the desk tells them.
     ghost calls: { Self → Option (List Asked) };
 
-    /// How many calls failed. At the last number of 64 bits the count stands still.
+    /// How many calls failed. The count stands still at 2^64 - 1.
     ghost faults: { Self → ℕ };
 
     /// The bytes of the file of this `name`, which has at most `limit` of them. `TooLong` where it has
     /// more, `Failed` where it is not there or can't be read, `OutOfMemory` where memory was refused. No
-    /// file is changed.
+    /// file is changed. The call is put on record, but for want of memory.
     fn fetch(&mut self, alloc: Global, name: &str, limit: u64) -> Result<Vec<u8>, FetchError>
         ensures files { files self.new ≡ files self.old }
         ensures within { IfOk result (λ bytes. length bytes.items ≤ limit) }
@@ -84,7 +86,8 @@ pub trait Desk {
         ensures faults { faults self.new ≡ after_fetch result (faults self.old) };
 
     /// Puts the bytes under `name`, in the place of what stood there. Where it is `Failed`, some first
-    /// bytes may stand there. Where it is `OutOfMemory`, no file is changed.
+    /// bytes may stand there. Where it is `OutOfMemory`, no file is changed. The call is put on record, but
+    /// for want of memory.
     fn store(&mut self, alloc: Global, name: &str, bytes: &[u8]) -> Result<(), StoreError>
         ensures files { Told (files self.old) (files self.new) (λ old new. Stores old new name.now bytes.now result) }
         ensures calls { Told (calls self.old) (calls self.new) (λ old new. new ≡ old ++ store_record name.now result) }

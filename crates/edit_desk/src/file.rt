@@ -1,4 +1,6 @@
-//! The desk over the files of the system, which the program has.
+//! The desk over the files of the system, which the program has. In contracts, `TakesOneMore` says that a
+//! file that is too long is told with one more than the limit. `ReadsWhole` says that all bytes that were
+//! left to read come back, or that they are more than the limit.
 ghost use Rattle.std.specs.Prelude.{◌≡◌, ◌≤◌, ◌<◌, None, IfErr, IfOk, IfSome, length, vec_len};
 ghost use Rattle.edit_desk.specs.Desk.{TakesOneMore};
 ghost use Rattle.edit_desk.specs.inner.Reads.{ReadsWhole};
@@ -47,8 +49,8 @@ impl<R: Files + Drop> Desk for FileDesk<R> {
 
     ghost faults = { λ d. d };
 
-    // Reads the file, and counts a fault where that failed. A file that is too long is no fault, and
-    // neither is refused memory.
+    // Reads the file of this name, which is its path, and counts a fault where it can't be opened or read.
+    // A file that is too long is no fault, and neither is refused memory.
     fn fetch(&mut self, alloc: Global, name: &str, limit: u64) -> Result<Vec<u8>, FetchError> {
         let answer = read_file(&self.rt, alloc, name, limit);
         if let Err(FetchError::Failed) = answer {
@@ -57,7 +59,7 @@ impl<R: Files + Drop> Desk for FileDesk<R> {
         answer
     }
 
-    // Writes the file, and counts a fault where that failed.
+    // Writes the file of this name, which is its path, and counts a fault where that failed.
     fn store(&mut self, _alloc: Global, name: &str, bytes: &[u8]) -> Result<(), StoreError> {
         let answer = write_file(&self.rt, name, bytes);
         if let Err(StoreError::Failed) = answer {
@@ -82,8 +84,8 @@ fn read_file<R: Files>(rt: &R, alloc: Global, name: &str, limit: u64) -> Result<
     }
 }
 
-// Puts the bytes into the file, in the place of what it held; a file that is not there is made. Where it
-// fails, some first bytes may stand there.
+// Puts the bytes into the file `name`, in the place of what it held; a file that is not there is made.
+// `Failed` where it can't be opened or a write fails; then some first bytes may stand there.
 fn write_file<R: Files>(rt: &R, name: &str, bytes: &[u8]) -> Result<(), StoreError> {
     match fs::create(rt, name) {
         Ok(mut file) => Ok(write_whole(&mut file, bytes)?),
@@ -91,16 +93,17 @@ fn write_file<R: Files>(rt: &R, name: &str, bytes: &[u8]) -> Result<(), StoreErr
     }
 }
 
-// A buffer of this many bytes, each of them 0.
+// A buffer of `len` bytes, each of them 0, into which a file is read piece by piece.
 fn zeros(alloc: Global, len: usize) -> Result<Vec<u8>, AllocError>
     ensures { IfOk result (λ buffer. vec_len buffer ≡ len) }
 {
     vec![in alloc; 0; len]
 }
 
-// The bytes of `file` to its end, read piece by piece into `chunk`. Each read asks for at most one byte
-// more than the limit leaves, so the first byte past the limit is seen. `TooLong` where there are more
-// than `limit` bytes. An interrupted read is tried again; any other fault is `Failed`.
+// The bytes of `file` to its end, read piece by piece into `chunk`, which is not empty. Each read asks for
+// at most one byte more than the limit leaves, so the first byte past the limit is seen. `TooLong` where
+// there are more than `limit` bytes. An interrupted read is tried again; any other fault is `Failed`, and
+// so are 2^64 reads without an end.
 fn read_within<F: Read>(
     alloc: Global,
     file: &mut F,
@@ -137,6 +140,7 @@ mod tests {
     use std::test::Fail;
     use std::{env, process};
 
+    // Five bytes are stored in a new folder of the system, and fetched with 5 as the limit.
     #[test]
     fn five_bytes_come_back(rt: HostRuntime) -> Result<(), Fail> {
         let alloc = rt.alloc();

@@ -1,5 +1,10 @@
 //! A desk in memory, for tests and worked cases. Its files can be looked at, its calls are on record, and
 //! calls can be made to fail.
+//!
+//! In contracts, `named_files` has the files of a map with their names, `under` the bytes under each name,
+//! and `asked` a call on record. `next_failure` is the failure that was asked for the next call, and
+//! `faults_of` how many calls on record failed. `FailsAs` says what a store leaves that is to fail. The
+//! other words are those of `calls`.
 ghost use Rattle.std.specs.Prelude.{◌≡◌, ◌⊎◌, ◌+◌, ◌==◌, ◌≤◌, ◌++◌, [], Some, None, IfErr, IfOk, IfSome, IfNone, IsSome, IsErr, IsErrOf};
 ghost use Rattle.std.specs.Prelude.{OnOk, OnErr, length, map, take, find, option_copied};
 ghost use Rattle.edit_desk.specs.Desk.{Fetches, Stores, SameElsewhere, TakesOneMore, after_fetch, after_store, fetch_record, store_record};
@@ -57,8 +62,7 @@ impl MemoryDesk {
         }
     }
 
-    /// The bytes under `name`, or None where no file has it. In contracts, `under` has the bytes under
-    /// each name. No memory.
+    /// The bytes under `name`, or None where no file has it. No memory.
     #[tactic(auto, using(crate::proofs::MemoryLaws::under_named))]
     pub fn file(&self, name: &str) -> Option<&[u8]>
         ensures { option_copied result ≡ under self.now.files name.now }
@@ -101,9 +105,9 @@ impl Desk for MemoryDesk {
 
     ghost faults = { faults_of };
 
-    // Answers a copy of the file's bytes. Memory for the record of the call is taken first, so that a call
-    // that is refused memory is not on record. It is `Failed` where a failure was asked for, or no file
-    // has the name.
+    // Answers a copy of the file's bytes. It is `Failed` where a failure was asked for, or no file has the
+    // name, and `TooLong` where there are more bytes than `limit`. Memory for the record of the call is
+    // taken first, so that a call that is refused memory is not on record.
     fn fetch(&mut self, alloc: Global, name: &str, limit: u64) -> Result<Vec<u8>, FetchError>
         ensures files { self.new.files ≡ self.old.files }
         ensures within { IfOk result (λ bytes. length bytes.items ≤ limit) }
@@ -130,9 +134,9 @@ impl Desk for MemoryDesk {
         answer
     }
 
-    // Puts a copy of the bytes under `name`, or of the first ones that an asked failure keeps. Memory for
-    // the record of the call is taken first. So a call that is refused memory changes nothing and is not
-    // on record.
+    // Puts a copy of the bytes under `name`. Where a failure was asked for, it puts the first bytes that
+    // this keeps, and is `Failed`. Memory for the record of the call is taken first. So a call that is
+    // refused memory changes nothing and is not on record.
     fn store(&mut self, alloc: Global, name: &str, bytes: &[u8]) -> Result<(), StoreError>
         ensures files { Stores (under self.old.files) (under self.new.files) name.now bytes.now result }
         ensures calls { self.new.calls ≡ self.old.calls ++ store_record name.now result }
@@ -157,15 +161,16 @@ impl Desk for MemoryDesk {
     }
 }
 
-// The failure that was asked for the call of this `number`; the first where there are several, and None
-// where there is none.
+// The failure that was asked for the call of this `number`, counted from 1; the first where there are
+// several, and None where there is none.
 fn failure_of(failures: &[Failure], number: u64) -> Option<Failure>
     ensures { result ≡ find (λ f. f.call == number) failures.now }
 {
     failures.iter().copied().find(|f| f.call == number)
 }
 
-// The bytes that a store puts: all without a failure, and else the first `keep` of them.
+// The bytes that a store puts: all where no failure was asked for, and else the first `keep` of them, or
+// all where there are fewer.
 fn kept_bytes(bytes: &[u8], failure: Option<Failure>) -> &[u8]
     ensures all { IfNone failure (result.now ≡ bytes.now) }
     ensures some { IfSome failure (λ f. result.now ≡ take f.keep bytes.now) }
@@ -203,8 +208,8 @@ fn bytes_within(
     Ok(bytes.to_vec(alloc)?)
 }
 
-// Puts the bytes under the name, or changes nothing where memory is refused: both copies are made before
-// the map is touched.
+// Puts a copy of the bytes under a copy of the name, in the place of what stood there. Where memory is
+// refused it changes nothing: both copies are made before the map is touched.
 #[tactic(auto, using(crate::proofs::MemoryLaws::under_named))]
 fn insert_copy(
     alloc: Global,

@@ -1,5 +1,8 @@
 //! A printer in memory, for tests and worked cases: what was printed can be looked at, and a line can be
-//! made to fail.
+//! made to fail. What was printed so far is called its page here.
+//!
+//! In contracts, `line_of` is a line's text with its line feed. `IsDue` says that the next line is the one
+//! that is to fail, and `IsTooMuch` that a line is longer than the room that is left, which is `free`.
 ghost use Rattle.std.specs.Prelude.{◌≡◌, ◌↔◌, ◌⊎◌, ◌≤◌, ◌-◌, ◌+◌, ◌++◌, [], Some, None, IfOk, IsErr, IsTrue, length, take, vec_capacity};
 ghost use Rattle.edit_desk.specs.Desk.{raised};
 ghost use Rattle.edit_desk.specs.Page.{IsDue, IsTooMuch, free, printer_room};
@@ -53,7 +56,7 @@ impl MemoryPrinter {
         })
     }
 
-    /// What was printed so far. No memory.
+    /// What was printed so far, with its line feeds. No memory.
     pub fn text(&self) -> &[u8]
         ensures { result.now ≡ self.now.text }
     {
@@ -77,8 +80,9 @@ impl Printer for MemoryPrinter {
 
     ghost faults = { λ p. p.faults };
 
-    // Appends the line with its line feed, unless it is the one that is to fail. Where there is no room
-    // for all of it, the bytes that fit stand there, and it fails. Each line is counted.
+    // Appends the line with its line feed. The line that is to fail appends nothing. Where there is no room
+    // for all of a line, the bytes that fit stand there, and it fails. Each line is counted, and each that
+    // failed is counted as a fault.
     fn line(&mut self, text: &[u8]) -> Result<(), PrintFailed>
         ensures printed { Prints self.old.text self.new.text text.now result }
         ensures faults { self.new.faults ≡ after_line result self.old.faults }
@@ -109,8 +113,8 @@ fn append_line(page: &mut Vec<u8>, text: &[u8]) -> bool
     append(page, text) && append(page, b"\n")
 }
 
-// Appends the bytes, as far as there is room in what `page` has reserved. The answer says whether there
-// was room for all.
+// Appends the bytes one by one, as far as there is room in what `page` has reserved, so that it takes no
+// memory. The answer says whether there was room for all.
 fn append(page: &mut Vec<u8>, bytes: &[u8]) -> bool
     ensures whole { IsTrue result ↔ length bytes.now ≤ vec_capacity page.old - length page.old.items }
     ensures items { page.new.items ≡ page.old.items ++ take (vec_capacity page.old - length page.old.items) bytes.now }

@@ -39,7 +39,7 @@ impl<R: Print + Drop> Printer for OutPrinter<R> {
 
     ghost faults = { λ p. p };
 
-    // Writes the line with its line feed, and counts a fault where that failed.
+    // Writes the line with its line feed to standard output, and counts a fault where that failed.
     fn line(&mut self, text: &[u8]) -> Result<(), PrintFailed> {
         let answer = write_line(&mut io::writer(&self.rt), text);
         if answer.is_err() {

@@ -4,13 +4,15 @@ use crate::{MemoryPrinter, Printer};
 use std::process::Abort;
 use std::test::Fail;
 
-// Prints the lines, each of which is to fail or not as it is said beside it.
+// Prints the lines, and asserts that each fails where `true` stands beside it, and else does not.
 fn print_lines(rt: &impl Abort, printer: &mut MemoryPrinter, lines: &[(&[u8], bool)]) {
     for (line, fails) in lines {
         assert_eq!(rt; printer.line(line).is_err(), *fails);
     }
 }
 
+// The second of four lines fails, as was asked for. A line that just fills the 1 MiB has no room for its
+// line feed, so that it fails, and so does the next one.
 #[test]
 fn a_line_fails_where_it_is_told_to_or_has_no_room(rt: HostRuntime) -> Result<(), Fail> {
     let alloc = rt.alloc();

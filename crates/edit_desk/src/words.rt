@@ -28,9 +28,9 @@ impl From<AllocError> for WordsFault {
     }
 }
 
-/// The words behind the first one, which is the program's name. `read` is the answer of `std::env::args`.
-/// `NotText` exactly where that is an error other than want of memory. No contract says which words the
-/// runtime hands to the program.
+/// The words with which a program was called, without the first one, which is the program's name. `read` is
+/// the answer of `std::env::args`. `NotText` exactly where that is an error other than want of memory. No
+/// contract says which words the runtime hands to the program.
 pub fn words_of(alloc: Global, read: io::Result<Args>) -> Result<Vec<String>, WordsFault>
     ensures words { IfOk result (λ words. IsOkAnd read (λ all. words.items ≡ drop 1 (into_iter_items all))) }
     ensures not_text { result ≡ Err WordsFault.NotText ↔ IsErrAnd read (λ error. error_kind error ≢ ErrorKind.OutOfMemory) }

@@ -1,4 +1,5 @@
-//! Bytes that are written as a whole, to a file or to standard output.
+//! Bytes that are written as a whole, to a file or to standard output. In contracts, `Appends` says that
+//! bytes were written behind what stood before.
 ghost use Rattle.std.specs.Prelude.{◌≡◌, ℕ, OnOk, take};
 ghost use Rattle.std.specs.Io.KnownBytes.{Appends};
 
@@ -15,22 +16,22 @@ impl From<NotWritten> for StoreError {
 
     ghost from_gives = { λ _ error. error ≡ store.Failed };
 
-    // Bytes that were not all written make a store fail.
+    // Lets `?` turn bytes that were not all written into a store that failed.
     fn from(_cause: NotWritten) -> Self {
         StoreError::Failed
     }
 }
 
 impl From<NotWritten> for PrintFailed {
-    // Bytes that were not all written make a line fail.
+    // Lets `?` turn bytes that were not all written into a line that failed.
     fn from(_cause: NotWritten) -> Self {
         PrintFailed
     }
 }
 
-/// Writes all the bytes, by as many writes as the writer needs. An interrupted write is tried again. A
-/// writer that takes nothing is a fault, since it might never take more. Where it fails, some first bytes
-/// may be written.
+/// Writes all the bytes, by as many writes as the writer needs. An interrupted write is tried again. It
+/// fails on any other fault, and where the writer takes nothing, since it might never take more. Then some
+/// first bytes may be written. A file and a line of standard output are written by it.
 pub fn write_whole<W: Write>(to: &mut W, bytes: &[u8]) -> Result<(), NotWritten>
     ensures whole { OnOk result (Appends (W.contents to.old) (W.contents to.new) bytes.now) }
     ensures part { (kept : ℕ) × Appends (W.contents to.old) (W.contents to.new) (take kept bytes.now) }

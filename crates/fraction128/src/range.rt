@@ -18,8 +18,8 @@ pub(crate) fn product_in_range(a: i128, b: i128) -> Result<i128, Overflow>
     }
 }
 
-/// The same product for both ways of `product_in_range`, or Overflow exactly where it is out of range, as
-/// -2^127 is.
+/// The product of any two numbers, for both ways of `product_in_range`; Overflow exactly where it is out
+/// of range, as -2^127 is.
 #[inline(always)]
 fn product_of(a: i128, b: i128) -> Result<i128, Overflow>
     ensures { OkIff result (InRange (a *ℤ b)) (a *ℤ b) }
