@@ -103,7 +103,7 @@ fn zeros(alloc: Global, len: usize) -> Result<Vec<u8>, AllocError>
 // The bytes of `file` to its end, read piece by piece into `chunk`, which is not empty. Each read asks for
 // at most one byte more than the limit leaves, so the first byte past the limit is seen. `TooLong` where
 // there are more than `limit` bytes. An interrupted read is tried again; any other fault is `Failed`, and
-// so are 2^64 reads without an end.
+// so are 2^64 - 1 reads without an end.
 fn read_within<F: Read>(
     alloc: Global,
     file: &mut F,

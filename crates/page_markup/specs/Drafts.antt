@@ -25,12 +25,12 @@ followed (Style rest) next = Style (followed rest next)
 followed (Void tag attributes rest) next = Void tag attributes (followed rest next)
 followed (Element tag attributes inside rest) next = Element tag attributes inside (followed rest next)
 
--- what a call does to the tree: an element is opened behind what is there; something is added behind it; the innermost element
--- is ended, where one is open
+-- what a call does to the tree: an element is opened behind what is there
 abbrev pub with_child : Tag → Attributes → Draft → Draft
 with_child tag attributes draft =
     record draft { frames = record { tag = tag; attributes = attributes; before = draft.here } ∷ draft.frames; here = Nothing }
 
+-- something is added behind what is there
 abbrev pub with_more : Content → Draft → Draft
 with_more content draft = record draft { here = followed draft.here content }
 
@@ -38,6 +38,7 @@ with_more content draft = record draft { here = followed draft.here content }
 abbrev pub ended : Frame → Content → Content
 ended frame inside = followed frame.before (Element frame.tag frame.attributes inside Nothing)
 
+-- the innermost element is ended, where one is open; else all is as before
 abbrev pub without_child_at : List ℕ → List Frame → Content → Draft
 without_child_at language [] here = record { language = language; frames = []; here = here }
 without_child_at language (frame ∷ frames) here = record { language = language; frames = frames; here = ended frame here }

@@ -13,11 +13,12 @@ pub record OpenPage : Type 0 where
   pub text : List ℕ
   pub tags : List Tag
 
--- the attributes that a call is given
+-- the bytes of an attribute's value: words as they are, and a number in decimal digits
 abbrev pub value_words : Value → List ℕ
 value_words (value.Words words) = words.now
 value_words (value.Number n) = decimal n
 
+-- the attributes that a call is given, each with the bytes of its value
 abbrev pub given : List (Attribute × Value) → Attributes
 given attributes = map (λ a. (a.0, value_words a.1)) attributes
 
@@ -29,7 +30,7 @@ begun language = record { text = page_start language; tags = [] }
 abbrev pub opened : Tag → Attributes → OpenPage → OpenPage
 opened tag attributes page = record { text = page.text ++ start_text tag attributes; tags = tag ∷ page.tags }
 
--- the innermost element is ended, where one is open
+-- the innermost element is ended, where one is open; else all is as before
 abbrev pub closed_at : List ℕ → List Tag → OpenPage
 closed_at text [] = record { text = text; tags = [] }
 closed_at text (tag ∷ tags) = record { text = text ++ end_text tag; tags = tags }

@@ -26,15 +26,19 @@ pub data Content : Type 0 where
 abbrev pub attribute_text : (Attribute × List ℕ) → List ℕ
 attribute_text a = codes " " ++ attribute_name a.0 ++ codes "=" ++ 34 ∷ (escaped a.1 ++ 34 ∷ [])
 
+-- the start of an element, with its attributes
 abbrev pub start_text : Tag → Attributes → List ℕ
 start_text tag attributes = codes "<" ++ tag_name tag ++ flat_map attribute_text attributes ++ codes ">"
 
+-- the end of an element
 abbrev pub end_text : Tag → List ℕ
 end_text tag = codes "</" ++ tag_name tag ++ codes ">"
 
+-- an element that holds nothing, as a whole
 abbrev pub void_text : VoidTag → Attributes → List ℕ
 void_text tag attributes = codes "<" ++ void_name tag ++ flat_map attribute_text attributes ++ codes " />"
 
+-- the style sheet, as an element
 unfoldable pub style_text : List ℕ
 style_text = codes "<style>" ++ STYLE.now ++ codes "</style>"
 

@@ -51,7 +51,7 @@ pub enum Attribute {
 }
 
 impl Attribute {
-    /// The name of the attribute in a page. No memory.
+    /// The attribute's name as it is written in a page, such as `colspan`. No memory.
     #[tactic(auto, unfolding(crate::specs::Names::attribute_name))]
     pub fn name(self) -> &'static [u8]
         ensures { result.now ≡ attribute_name self }

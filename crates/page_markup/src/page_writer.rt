@@ -47,7 +47,8 @@ impl Model for PageWriter {
 }
 
 impl PageWriter {
-    /// A page in a language, as `en`, that holds nothing yet.
+    /// A page in a language, as `en`, that holds nothing yet: what stands before all elements is written, and
+    /// none is open.
     #[tactic(auto, unfolding(crate::specs::Trees::page_start))]
     pub fn new(alloc: Global, language: &[u8]) -> Result<PageWriter, OutOfMemory>
         ensures begun { IfOk result (λ page. page ≡ begun language.now) }
@@ -63,8 +64,8 @@ impl PageWriter {
         })
     }
 
-    /// Opens an element in the innermost one that is open. An attribute that is given twice is written
-    /// twice, which no browser reads as meant: give each once.
+    /// Opens an element in the innermost one that is open, or in the page itself where none is. An attribute
+    /// that is given twice is written twice, which no browser reads as meant: give each once.
     pub fn open(&mut self, tag: Tag, attributes: &[(Attribute, Value)]) -> Result<(), OutOfMemory>
         ensures written { OnOk result (self.new ≡ opened tag (given attributes.now) self.old) }
         ensures tree { OnOk result (Follows (with_child tag (given attributes.now)) self.old self.new) }
@@ -83,7 +84,7 @@ impl PageWriter {
         }
     }
 
-    /// Ends the innermost element that is open. Where none is, it writes nothing.
+    /// Ends the innermost element that is open. Where none is, it writes nothing, and that is no fault.
     pub fn close(&mut self) -> Result<(), OutOfMemory>
         ensures written { OnOk result (self.new ≡ closed self.old) }
         ensures tree { OnOk result (Follows without_child self.old self.new) }
@@ -99,8 +100,8 @@ impl PageWriter {
         Ok(())
     }
 
-    /// Writes an element that holds nothing. An attribute that is given twice is written twice, which no
-    /// browser reads as meant: give each once.
+    /// Writes a whole element of a kind that never holds anything, such as a line of a drawing. An attribute
+    /// that is given twice is written twice, which no browser reads as meant: give each once.
     pub fn empty(
         &mut self,
         tag: VoidTag,
@@ -116,8 +117,9 @@ impl PageWriter {
         Ok(())
     }
 
-    /// Writes words, whatever their bytes are. None of them can open or end an element (`inert`). Words
-    /// of which no byte is replaced are read back from the page as they were (`told`).
+    /// Writes words into the innermost open element, whatever their bytes are. None of them can open or end
+    /// an element (`inert`). Words of which no byte is replaced can be told from the page (`told`): no other
+    /// such words are written alike.
     pub fn text(&mut self, words: &[u8]) -> Result<(), OutOfMemory>
         ensures written { OnOk result (self.new ≡ added (Words words.now Nothing) self.old) }
         ensures tree { OnOk result (Follows (with_more (Words words.now Nothing)) self.old self.new) }
@@ -131,7 +133,7 @@ impl PageWriter {
         Ok(())
     }
 
-    /// Writes a number in decimal digits.
+    /// Writes a number in decimal digits into the innermost open element.
     pub fn number(&mut self, number: u64) -> Result<(), OutOfMemory>
         ensures written { OnOk result (self.new ≡ added (Words (decimal number) Nothing) self.old) }
         ensures tree { OnOk result (Follows (with_more (Words (decimal number) Nothing)) self.old self.new) }
@@ -140,7 +142,8 @@ impl PageWriter {
         self.text(Buffer::new().format(number).as_bytes())
     }
 
-    /// Writes the style sheet [`crate::STYLE`], which stands in the head.
+    /// Writes the style sheet [`crate::STYLE`] into the innermost open element. It is meant for the head, so
+    /// this has to be open; nothing here looks at that.
     pub fn style(&mut self) -> Result<(), OutOfMemory>
         ensures written { OnOk result (self.new ≡ added (Style Nothing) self.old) }
         ensures tree { OnOk result (Follows (with_more (Style Nothing)) self.old self.new) }
@@ -152,7 +155,7 @@ impl PageWriter {
         Ok(())
     }
 
-    /// How many elements are open. No memory.
+    /// How many elements are open; the page's own `html` is not counted. No memory.
     pub fn depth(&self) -> usize
         ensures { result ≡ length self.now.tags }
     {

@@ -55,7 +55,8 @@ thead th{position:static}
 }
 ";
 
-/// Appends the style sheet as it stands in a page.
+/// Appends the style sheet as it stands in a page: `STYLE` between the tags of `style`. Refused memory may
+/// leave a part of it appended.
 #[tactic(auto, unfolding(crate::specs::Trees::style_text))]
 pub(crate) fn push_style(text: &mut Vec<u8>) -> Result<(), OutOfMemory>
     ensures { OnOk result (text.new.items ≡ text.old.items ++ style_text) }

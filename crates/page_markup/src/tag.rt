@@ -62,7 +62,7 @@ pub enum Tag {
 }
 
 impl Tag {
-    /// The name of the element in a page. No memory.
+    /// The element's name as it is written in a page, such as `thead`. No memory.
     #[tactic(auto, unfolding(crate::specs::Names::tag_name))]
     pub fn name(self) -> &'static [u8]
         ensures { result.now ≡ tag_name self }
@@ -112,7 +112,7 @@ pub enum VoidTag {
 }
 
 impl VoidTag {
-    /// The name of the element in a page. No memory.
+    /// The element's name as it is written in a page, such as `rect`. No memory.
     #[tactic(auto, unfolding(crate::specs::Names::void_name))]
     pub fn name(self) -> &'static [u8]
         ensures { result.now ≡ void_name self }

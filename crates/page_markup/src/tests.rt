@@ -5,7 +5,7 @@ use foundation::OutOfMemory;
 use std::alloc::Global;
 use std::test::Fail;
 
-/// The page, byte for byte.
+/// What `hostile_page` is to be, byte for byte.
 const PAGE: &[u8] = b"<!DOCTYPE html>
 <html lang=\"en\">
 <head><meta charset=\"utf-8\" />\
@@ -15,7 +15,8 @@ caf\xEF\xBF\xBD &amp;amp;18446744073709551615</p></body>
 </html>
 ";
 
-// Writes the page; some of its elements are not closed.
+// Writes a page whose texts and value hold markup, control characters and broken UTF-8. One element is closed
+// before any is open, and `finish` has to end two.
 fn hostile_page(alloc: Global) -> Result<Vec<u8>, OutOfMemory> {
     let mut page = PageWriter::new(alloc, b"en")?;
     page.close()?;
@@ -39,7 +40,7 @@ fn hostile_page(alloc: Global) -> Result<Vec<u8>, OutOfMemory> {
     page.finish()
 }
 
-// Texts and a value that would open elements stand in the page as they are read.
+// Texts and a value with markup in them open no element and end no value: the page is `PAGE`.
 #[test]
 fn no_text_opens_an_element_or_leaves_an_attribute(rt: HostRuntime) -> Result<(), Fail> {
     let page = hostile_page(rt.alloc())?;
