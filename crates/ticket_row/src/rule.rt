@@ -1,11 +1,12 @@
-//! What holds of a row of tickets between any two steps, and what a step does to what a seat knows.
+//! What holds of a row of tickets between any two steps, and what a step does to what a seat knows. A seat
+//! that draws past the last ticket meets the end: such a draw is counted, but takes no number.
 
 use atomic_table::{Join, Play, Split, TableRule};
 use std::collections::LinkedList;
 
 /// What a seat knows: how many tickets there are (`count`), and for how many `seats` it stands. Also the
-/// numbers that it drew, and how often it drew past the last one (`ends`). Contracts alone speak of it: no
-/// value of it is made. A seat stands for several until these are split off from it.
+/// numbers that it drew, and how often it met the end (`ends`), which is a draw past the last ticket.
+/// Contracts alone speak of it: no value of it is made. A seat stands for several until these are split off.
 pub struct Hand {
     pub count: u64,
     pub seats: u64,
@@ -31,8 +32,8 @@ impl TableRule<(), Hand, Terms> for TicketRule {
     ghost first = { first_hand };
 }
 
-/// A draw: the seat takes the number that it found. Where that is past the last ticket, it counts an end
-/// instead.
+/// A draw: the seat takes the number that it found. Where that is past the last ticket, it takes none, and
+/// `ends` is one more.
 pub struct Draw;
 
 impl Play<(), Hand> for Draw {

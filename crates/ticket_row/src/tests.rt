@@ -8,6 +8,7 @@ use std::alloc::Global;
 use std::test::Fail;
 use std::thread::{Threads, join};
 
+// The first seat draws the one ticket, number 0. The second is answered None, and None again.
 #[test]
 fn one_ticket_and_two_seats(rt: HostRuntime) -> Result<(), Fail> {
     let (tickets, mut seats) = Tickets::new(rt.alloc(), 1, 2)?;
@@ -19,7 +20,8 @@ fn one_ticket_and_two_seats(rt: HostRuntime) -> Result<(), Fail> {
     Ok(())
 }
 
-// Draws to the end, and counts how often each of three numbers was drawn.
+// Draws from this seat until none of the row's three tickets is left. The answer has the seat, and how often
+// it drew each of the numbers 0, 1 and 2.
 fn draw_all(tickets: &Tickets, mut seat: Seat) -> (Seat, [u8; 3])
     requires row { seat.row ≡ tickets.now.row }
     requires three { tickets.now.row.count ≡ 3 }
@@ -32,7 +34,8 @@ fn draw_all(tickets: &Tickets, mut seat: Seat) -> (Seat, [u8; 3])
     (seat, times)
 }
 
-// How many of three tickets two threads drew, and how often each.
+// How many of three tickets two threads drew, and how often they drew each, both together. All is 0 where
+// there are not two seats, which `Tickets::new` does not let come.
 fn draw_by_two<R: Threads + Sync>(rt: &R, alloc: Global) -> Result<(u32, [u8; 3]), OutOfMemory> {
     let (tickets, mut seats) = Tickets::new(alloc, 3, 2)?;
     let (Some(one), Some(two)) = (seats.pop(), seats.pop()) else {
@@ -62,6 +65,7 @@ fn draw_by_two<R: Threads + Sync>(rt: &R, alloc: Global) -> Result<(u32, [u8; 3]
     Ok((tickets.close(seats), times))
 }
 
+// Whichever thread is faster, all three numbers are drawn, each once.
 #[test]
 fn two_threads_draw_each_number_once(rt: HostRuntime) -> Result<(), Fail> {
     let (drawn, times) = draw_by_two(&rt, rt.alloc())?;
@@ -70,7 +74,7 @@ fn two_threads_draw_each_number_once(rt: HostRuntime) -> Result<(), Fail> {
     Ok(())
 }
 
-// Closes the tickets in another thread.
+// Closes the tickets in another thread, with all their seats, and answers how many were drawn.
 fn close_elsewhere<R: Threads + Sync>(rt: &R, tickets: Tickets, seats: Vec<Seat>) -> u32
     requires row { All (λ s. s.row ≡ tickets.row) seats.items }
     requires all { length seats.items ≡ tickets.seats }
@@ -80,6 +84,7 @@ fn close_elsewhere<R: Threads + Sync>(rt: &R, tickets: Tickets, seats: Vec<Seat>
     drawn
 }
 
+// One of two tickets is drawn here; the row is then closed by another thread, which counts one.
 #[test]
 fn tickets_and_seats_go_to_another_thread(rt: HostRuntime) -> Result<(), Fail> {
     let (tickets, mut seats) = Tickets::new(rt.alloc(), 2, 1)?;

@@ -1,5 +1,7 @@
 //! Tickets: the numbers below a count, which workers draw one after another without a lock, and the seats
-//! that they draw from.
+//! that they draw from. The row stands on a table of one word, the number of draws; a `Place` is a seat of
+//! that table. In contracts, `IsFresh` says that a seat of the row has drawn nothing, and `DrawnBelow` that
+//! seats have drawn each number below a count once. A hand is what a seat knows.
 ghost use Rattle.std.specs.Prelude.{◌≡◌, ◌+◌, ◌<◌, ◌≤◌, ◌^◌, ◌++◌, [], ◌∷◌, true, false, length, IfOk, IfSome, IfNone};
 ghost use Rattle.std.specs.List.{All, Any};
 ghost use Rattle.std.specs.List.Sorted.{IsStrictlyIncreasing};
@@ -50,7 +52,8 @@ impl Model for Seat {
 }
 
 impl Seat {
-    // The seat at a place from which nothing was drawn, which stands for one seat (`new_hand`).
+    // A seat at a place of the table from which nothing was drawn. The place stands for this one seat
+    // (`new_hand`).
     fn fresh(place: Place<(), Hand>) -> Self
         requires { place.me ≡ (new_hand place.me.0, []) }
         ensures { IsFresh (row_of place.table_id place.me.0) result }
@@ -61,7 +64,7 @@ impl Seat {
         }
     }
 
-    // The place of the seat, by which `close` hands it back to the table.
+    // The seat's place at the table, without the seat. `close` hands it back to the table.
     fn into_place(self) -> Place<(), Hand>
         ensures row { result.table_id ≡ self.row.name }
         ensures hand { result.me ≡ (hand_of self, []) }
@@ -91,8 +94,9 @@ impl Tickets {
         Ok((Tickets { table, count }, row))
     }
 
-    /// The next number, or None where none is left: one atomic step. `seat` is one of this row. From a
-    /// seat that was answered None before, None again, without a step. No memory, no waiting.
+    /// Draws the next number for `seat`, which is one of this row, or None where no number is left. It is one
+    /// atomic step. A seat that was answered None before is answered None again, without a step. No memory,
+    /// no waiting.
     pub fn draw(&self, seat: &mut Seat) -> Option<u32>
         requires { seat.old.row ≡ self.now.row }
         ensures row { seat.new.row ≡ seat.old.row }
@@ -115,9 +119,9 @@ impl Tickets {
         }
     }
 
-    /// How many tickets were drawn, once all seats of the row are handed back: these have drawn each
-    /// number below the answer once. Draws past the last ticket are in the word that counts draws, but not
-    /// in the answer. There is a seat at least, since `new` asks for one. No memory, no waiting.
+    /// How many tickets were drawn, once all seats of the row are handed back: these have drawn each number
+    /// below the answer once. Where one was answered None, it is the count of tickets: draws past the last
+    /// ticket are not in it. There is a seat at least, since `new` asks for one. No memory, no waiting.
     pub fn close(self, seats: Vec<Seat>) -> u32
         requires row { All (λ s. s.row ≡ self.row) seats.items }
         requires all { length seats.items ≡ self.seats }

@@ -72,6 +72,6 @@ new_hand hand = hand_with hand.count 1 [] 0
 abbrev pub both_hands : Hand → Hand → Hand
 both_hands hand other = hand_with hand.count (hand.seats + other.seats) (hand.drawn ++ other.drawn) (hand.ends + other.ends)
 
--- the hand that was taken in
+-- the hand that was taken in: it knows nothing and stands for no seat
 abbrev pub spent_hand : Hand
 spent_hand = hand_with 0 0 [] 0
