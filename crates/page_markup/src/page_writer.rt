@@ -142,8 +142,8 @@ impl PageWriter {
         self.text(Buffer::new().format(number).as_bytes())
     }
 
-    /// Writes the style sheet [`crate::STYLE`] into the innermost open element. It is meant for the head, so
-    /// this has to be open; nothing here looks at that.
+    /// Writes the style sheet [`crate::STYLE`] into the innermost open element. It is meant for the head, but
+    /// no call looks at where it stands.
     pub fn style(&mut self) -> Result<(), OutOfMemory>
         ensures written { OnOk result (self.new ≡ added (Style Nothing) self.old) }
         ensures tree { OnOk result (Follows (with_more (Style Nothing)) self.old self.new) }

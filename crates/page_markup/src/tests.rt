@@ -15,8 +15,8 @@ caf\xEF\xBF\xBD &amp;amp;18446744073709551615</p></body>
 </html>
 ";
 
-// Writes a page whose texts and value hold markup, control characters and broken UTF-8. One element is closed
-// before any is open, and `finish` has to end two.
+// Writes a page whose texts and value hold markup, control characters and broken UTF-8. `close` is called
+// once before any element is open, and `finish` has to end two elements.
 fn hostile_page(alloc: Global) -> Result<Vec<u8>, OutOfMemory> {
     let mut page = PageWriter::new(alloc, b"en")?;
     page.close()?;
