@@ -10,8 +10,8 @@ use crate::claim::Won;
 use foundation::OutOfMemory;
 use std::alloc::Global;
 
-// The first donor of the ranking that was given less often than the limit, None where none was. `uses` has
-// how often each donor was given.
+// The first donor of the ranking that was given less often than the limit, None where each was given as
+// often. `uses` has how often each donor was given, by its number from 0.
 pub fn first_below(uses: &[u32], limit: u32, ranking: &[u32]) -> Option<u32>
     requires { All (λ donor. donor < length uses.now) ranking.now }
     ensures { result ≡ find (λ donor. nat_lt (slice_index uses.now donor) limit) ranking.now }
@@ -22,8 +22,8 @@ pub fn first_below(uses: &[u32], limit: u32, ranking: &[u32]) -> Option<u32>
         .find(|donor| uses[*donor as usize] < limit)
 }
 
-// Notes a claim in both tables: it counts the donor, if one was given, and keeps what the row was given.
-// Each count can grow by one within 32 bits.
+// Notes a claim in both tables: it counts the donor, if one was given, and keeps what the row was given. The
+// row has not claimed before. Each count can grow by one within 32 bits.
 pub fn note_claim(uses: &mut Vec<u32>, replies: &mut Vec<Option<Option<u32>>>, won: Won)
     requires row { won.row_no < length replies.old.items }
     requires donor { IsDonor (length uses.old.items) won.reply }

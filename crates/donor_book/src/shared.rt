@@ -68,7 +68,7 @@ impl Model for Pass {
 
 impl Pass {
     // A pass that has seen and claimed nothing, at this seat of the table. The seat stands for one pass of
-    // a book with these terms.
+    // a book with these terms. All memory of the pass is taken here.
     fn fresh(alloc: Global, seat: Seat<(), Known>, terms: Terms) -> Result<Pass, OutOfMemory>
         requires seat { seat.me ≡ (known terms 1 [] [], []) }
         requires small { (terms.rows + 1 < 2 ^ 32) × (terms.donors + 1 < 2 ^ 32) }
@@ -91,8 +91,8 @@ impl Pass {
         self.seat
     }
 
-    // What the row was given: None where no claim of it has been seen, and else a donor, or a None inside
-    // for nobody.
+    // What the row was given by the claims that the pass has seen: None where none is the row's, and else a
+    // donor, or a None inside for nobody.
     fn reply_of(&self, row_no: u32) -> Option<Option<u32>>
         requires { row_no < self.now.book.terms.rows }
         ensures reply { result ≡ option_map (λ w. w.reply) (claim_of row_no self.now.seen) }
@@ -211,8 +211,9 @@ impl SharedBook {
         history
     }
 
-    // Enters the claim behind all that the pass has seen; its reply was found by `ranking`. False where
-    // another claim came before it, which is then seen. Either way the pass has seen one claim more.
+    // Tries to enter the claim right behind all that the pass has seen. Its reply is the first donor of
+    // `ranking` with uses left there. True where it was entered; false where another claim came before it,
+    // which is then seen. Either way the pass has seen one claim more.
     fn try_claim(&self, pass: &mut Pass, ranking: &[u32], claim: Won) -> bool
         requires book { pass.old.book ≡ self.now }
         requires claim { IsWithin self.now.terms.donors self.now.terms.rows claim }
@@ -230,9 +231,9 @@ impl SharedBook {
         found == 0
     }
 
-    // One try at the place `at` of the table, behind what was seen. The answer is 0 where the claim was
-    // entered, and else the word of the claim that stands there. `A` names the entry with its ranking, for
-    // contracts alone: the word leaves the ranking out.
+    // One try to write the claim's word at the place `at` of the table, right behind what was seen. The
+    // answer is 0 where the claim was entered, and else the word of the claim that stands there. `A` names
+    // the entry with its ranking, for contracts alone: the word leaves the ranking out.
     fn enter<A: Tried>(
         &self,
         seat: &mut Seat<(), Known>,

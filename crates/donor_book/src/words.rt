@@ -12,7 +12,7 @@ use crate::rule::Terms;
 use atomic_table::Closed;
 use std::alloc::Global;
 
-// What stands for the claim that was tried, where none was.
+// What `read_claim` is given as the claim that was tried, where words are read without a try.
 const NO_CLAIM: Won = Won {
     row_no: 0,
     reply: None,
@@ -40,8 +40,8 @@ pub fn claim_word(claim: Won) -> u64
     (claim.row_no as u64 + 1) * 4294967296 + reply_code(claim.reply)
 }
 
-// The claim that stands at a place after a try to enter one there. A try that found 0 entered its own,
-// `claim`; else the word that it found is that of another.
+// The claim that stands at a place after a try to enter `claim` there. A try that found 0 entered its own;
+// else `found` is the word of another claim, which is read from it.
 pub fn read_claim(found: u64, claim: Won) -> Won
     requires { MatchBool (found == 0) (Unit {0}) ((x : Won) × (word_of x ≡ found) × (x.row_no + 1 < 2 ^ 32)
         × IsDonor (2 ^ 32 - 1) x.reply) }
@@ -61,9 +61,9 @@ pub fn read_claim(found: u64, claim: Won) -> Won
     }
 }
 
-// Reads the words of a closed table into `history`, which is empty and has room for a claim of each row,
-// and answers it. The first word 0 ends it. In the contract, `AreWordsOf` says that words are those of a
-// history.
+// The history that the words of a closed table tell, up to the first word 0. It is read into `history`, which
+// is empty and has room for a claim of each row, so that no memory is taken. In the contract, `AreWordsOf`
+// says that words are those of a history.
 pub fn read_history(closed: &Closed<(), Global>, terms: Terms, mut history: Vec<Won>) -> Vec<Won>
     requires full { IsFull closed.now.words × (slots_len closed.now.words ≡ terms.rows + 1) }
     requires small { (terms.rows + 1 < 2 ^ 32) × (terms.donors + 1 < 2 ^ 32) }

@@ -108,6 +108,6 @@ both_known k other = record {
 abbrev pub no_terms : Terms
 no_terms = record { limit = 0; donors = 0; rows = 0; passes = 0 }
 
--- a pass that was taken in
+-- a pass that was taken in: it stands for no pass, and knows nothing
 abbrev pub spent_known : Known
 spent_known = known no_terms 0 [] []
