@@ -1,5 +1,7 @@
 //! The rows of each class, and the numbers that they have in the book of their class. A class's book
-//! numbers its rows from 0, in the order of the file.
+//! numbers its rows from 0, in the order of the file. In contracts, `rows_in` has the rows of a class, and
+//! `IsOfClass` says that a row is of a class. `claim_with`, `won_with` and `donor_with` turn numbers of the
+//! class's book into those of the whole file.
 ghost use Rattle.std.specs.Prelude.{◌≡◌, ℕ, ◌+◌, ◌<◌, ◌≤◌, ◌^◌, [], IfOk, length, map, slice_get, slice_index, take};
 ghost use Rattle.std.specs.List.{All};
 ghost use Rattle.class_books.specs.Classes.{IsOfClass};
@@ -43,8 +45,9 @@ impl Model for Classes {
 }
 
 impl Classes {
-    /// The tables of these classes. `class_of` has the class of each row, which is below `classes`. A
-    /// donor is given at most `limit` times, and there are `passes` passes.
+    /// The tables of `classes` classes. `class_of` has the class of each row of the file, which is below
+    /// `classes`. A donor is given at most `limit` times, and there are `passes` passes. A class may have no
+    /// rows.
     pub fn of(
         alloc: Global,
         class_of: Vec<u32>,
@@ -89,7 +92,7 @@ impl Classes {
         self.rows[class].as_slice()
     }
 
-    /// The class of a row. No memory.
+    /// The class of a row, from 0; rows have the numbers of the whole file, from 0. No memory.
     pub fn class_of(&self, row_no: u32) -> usize
         requires { row_no < length self.now.class_of }
         ensures class { IsOfClass self.now.class_of result row_no }
@@ -98,7 +101,7 @@ impl Classes {
         self.class_of[row_no as usize] as usize
     }
 
-    /// The number of a row in the book of its class. No memory.
+    /// The number, from 0, of a row in the book of its class. No memory.
     pub fn number_of(&self, row_no: u32) -> u32
         requires { row_no < length self.now.class_of }
         ensures { (class : ℕ) → IsOfClass self.now.class_of class row_no
@@ -107,8 +110,8 @@ impl Classes {
         self.numbers[row_no as usize]
     }
 
-    /// The numbers of at most 64 rows of one class in the class's book, in order, and 0 behind them. No
-    /// memory.
+    /// The numbers that at most 64 rows of one class have in the class's book, in order, and 0 behind them: a
+    /// ranking in the numbers of the class. No memory.
     pub fn numbers_of(&self, rows: &[u32]) -> [u32; MOST_DONORS]
         requires few { length rows.now ≤ MOST_DONORS }
         requires rows { All (λ row. row < length self.now.class_of) rows.now }
@@ -122,7 +125,8 @@ impl Classes {
         numbers
     }
 
-    /// What the class's book answered, with the numbers that donors have in the whole file. No memory.
+    /// The same answer of the class's book, but with the number that the donor has in the whole file. No
+    /// memory.
     pub fn claim_in_file(&self, class: usize, answer: Claim) -> Claim
         requires class { class < self.now.classes }
         requires given { IsGivenWithin (length (rows_in self.now.class_of class)) answer }
@@ -135,8 +139,8 @@ impl Classes {
         }
     }
 
-    /// The history of the class's book, with the numbers that rows and donors have in the whole file. No
-    /// memory.
+    /// The same history of the class's book, but with the numbers that rows and donors have in the whole
+    /// file. No memory.
     pub fn history_in_file(&self, class: usize, history: Vec<Won>) -> Vec<Won>
         requires class { class < self.now.classes }
         requires rows { All (λ w. w.row_no < length (rows_in self.now.class_of class)) history.items }
@@ -153,7 +157,8 @@ impl Classes {
         history
     }
 
-    // The donor that has this number in the class's book, by its number in the whole file; None for nobody.
+    // The donor that has this number in the class's book, by its number in the whole file. None for nobody,
+    // and for a number that the class does not have.
     fn donor_with(&self, class: usize, reply: Option<u32>) -> Option<u32>
         requires { class < self.now.classes }
         ensures { result ≡ donor_with self.now.class_of class reply }
@@ -163,7 +168,7 @@ impl Classes {
     }
 }
 
-// A list without rows for each class.
+// An empty list of rows for each of `classes` classes.
 fn no_rows(alloc: Global, classes: u32) -> Result<Vec<Vec<u32>>, OutOfMemory>
     ensures as_many { IfOk result (λ rows. length rows.items ≡ classes) }
     ensures empty { IfOk result (λ rows. All (λ r. r.items ≡ []) rows.items) }

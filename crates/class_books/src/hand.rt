@@ -1,5 +1,5 @@
-//! What a class pass has of one class: a pass of the class's book, and the room that closing the book
-//! needs.
+//! What a class pass has of one class, which is called its hand: a pass of the class's book, and the room
+//! that closing the book needs.
 ghost use Rattle.std.specs.Prelude.{◌≡◌, ◌<◌, ◌≤◌, [], IfOk};
 ghost use Rattle.std.specs.List.{All};
 ghost use Rattle.donor_book.specs.Passes.{ArePlaced, IsAnswered};
@@ -30,7 +30,7 @@ impl Model for Hand {
 }
 
 impl Hand {
-    /// A pass that has claimed nothing, and room for all `passes` of its book.
+    /// The hand of a pass that has claimed nothing, with room for all `passes` passes of its book.
     pub fn of(alloc: Global, pass: Pass, passes: u32) -> Result<Hand, OutOfMemory>
         requires passes { pass.book.terms.passes ≡ passes }
         requires mine { pass.mine ≡ [] }
@@ -52,7 +52,7 @@ impl Hand {
         book.claim(&mut self.pass, row_no, ranking)
     }
 
-    /// The pass, and the room, in which no pass stands yet. No memory.
+    /// The pass, and the room, in which no pass stands yet: with both the class's book is closed. No memory.
     pub fn into_parts(self) -> (Pass, Vec<Pass>)
         ensures pass { result.0 ≡ self }
         ensures ranks { RanksOwn self }

@@ -35,8 +35,7 @@ impl Model for ClassPass {
 }
 
 impl ClassPass {
-    /// A pass of the classes that has no pass of a book yet; `add` takes them in, class by class. No
-    /// memory.
+    /// A pass of the classes that has no pass of a book yet; `add` takes these in, class by class. No memory.
     pub fn of(alloc: Global, classes: Arc<Classes>) -> ClassPass
         ensures { result ≡ class_pass_of (arc_value classes) [] }
     {
@@ -46,7 +45,8 @@ impl ClassPass {
         }
     }
 
-    /// Takes in a pass of the book of the next class, which has seen and claimed nothing.
+    /// Takes in a pass of the book of the next class, in the order of the classes. That pass has seen and
+    /// claimed nothing (`IsNext`).
     pub fn add(&mut self, alloc: Global, pass: Pass) -> Result<(), OutOfMemory>
         requires { IsNext self.old pass }
         ensures { OnOk result (self.new ≡ with_class self.old pass.book) }
@@ -56,8 +56,8 @@ impl ClassPass {
         Ok(())
     }
 
-    /// Gives away what it has of the last class, of which there is one; it then has those before it alone.
-    /// Books are closed from the last class on. No memory.
+    /// Takes out and answers what the pass has of the last class. There has to be a class; the pass is then
+    /// one of the classes before it alone. Books are closed from the last class on. No memory.
     pub fn take_last(&mut self) -> Hand
         requires { 0 < length self.old.classes.books }
         ensures rest { self.new ≡ first_classes (last_class self.old) self.old }

@@ -3,7 +3,9 @@
 //!
 //! In contracts, `pass_in` has what a pass has of one class, as a pass of that class's book. `EachClass`
 //! says something of each class, and `IsFreshPass` that a pass has seen and claimed nothing in any.
-//! `IsAnswered`, `IsWhole` and `IsSound` are those of `donor_book`.
+//! `IsAnswered`, `IsWhole` and `IsSound` are those of `donor_book`. `fresh_pass`, `with_class` and
+//! `first_classes` are a pass that has claimed nothing, one with a class more, and one of the first classes
+//! alone; `last_class` is the number of its last class, from 0.
 ghost use Rattle.std.specs.Prelude.{◌≡◌, ◌≢◌, ℕ, ◌+◌, ◌++◌, ◌<◌, ◌≤◌, ◌^◌, List, [], ◌∷◌, IfOk, OnOk, length, map};
 ghost use Rattle.std.specs.List.{All};
 ghost use Rattle.std.specs.Arc.{arc_value};
@@ -47,9 +49,9 @@ impl Model for SharedClasses {
 }
 
 impl SharedClasses {
-    /// A book for each class, in which a donor is given at most `limit` times, and `passes` passes.
-    /// `class_of` has the class of each row, below `classes`; a row claims, and is a donor, in its class
-    /// alone. Nobody has claimed. All memory is taken here.
+    /// A book for each of `classes` classes, in which a donor is given at most `limit` times, and `passes`
+    /// passes over them all. `class_of` has the class of each row, below `classes`; a row claims, and is a
+    /// donor, in its class alone. Nobody has claimed. All memory is taken here.
     pub fn share(
         alloc: Global,
         class_of: Vec<u32>,
@@ -149,7 +151,8 @@ impl SharedClasses {
     }
 }
 
-// As many passes of the classes as `count`, with passes of no book yet.
+// A list of `count` passes of the classes, one for each worker, which have no pass of a book yet. `deal`
+// gives them these.
 fn passes_of(
     alloc: Global,
     classes: &Arc<Classes>,
@@ -166,8 +169,8 @@ fn passes_of(
     Ok(all)
 }
 
-// Gives each of `all`, the passes of the classes, a pass of the next class's book. In `passes` there are
-// as many.
+// Gives each of `all`, the passes of the classes, one of `passes`, the passes of the next class's book. There
+// are as many of both. Which one gets which is all the same: no pass has claimed.
 fn deal(alloc: Global, all: &mut Vec<ClassPass>, passes: Vec<Pass>) -> Result<(), OutOfMemory>
     requires as_many { length passes.items ≡ length all.old.items }
     requires next { All (λ class_pass. All (IsNext class_pass) passes.items) all.old.items }
@@ -186,8 +189,9 @@ fn deal(alloc: Global, all: &mut Vec<ClassPass>, passes: Vec<Pass>) -> Result<()
     Ok(())
 }
 
-// The passes of the last class's book, taken from `others` and then from `last`, which together are all
-// passes of the classes. They come in the room that `last` has for them, so that no memory is taken.
+// All passes of the last class's book, for it to be closed with. They are taken out of `others`, in order, and
+// then of `last`, which together are all passes of the classes. They come in the room that `last` has for
+// them, so that no memory is taken.
 fn gather(others: &mut Vec<ClassPass>, last: &mut ClassPass) -> Vec<Pass>
     requires some { 0 < length last.old.classes.books }
     requires same { All (λ pass. pass.classes ≡ last.old.classes) others.old.items }

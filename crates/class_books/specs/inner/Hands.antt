@@ -14,13 +14,13 @@ RanksWithin donors m = All (λ donor. donor < donors) m.entry.ranking
 abbrev pub RanksOwn : PassState → Type 0
 RanksOwn pass = All (RanksWithin pass.book.terms.donors) pass.mine
 
--- such a pass, and room for all passes of its book
+-- a pass whose claims rank donors of its book alone, and empty room for all passes of that book
 pub record KeepsHand (pass : PassState) (room : List PassState) (capacity : ℕ) : Type 0 where
   pub ranks : RanksOwn pass
   pub empty : room ≡ []
   pub enough : pass.book.terms.passes ≤ capacity
 
--- the pass of each class, as far as there is one, is of a book with the terms of the class
+-- each of these books, the first of which is that of class 0, has the terms of its class
 abbrev pub AreOfTerms : ClassTerms → List BookName → Type 0
 AreOfTerms terms books =
     (class : ℕ) (d : BookName) → class < length books → (slice_index_or books class d).terms ≡ class_terms terms class
@@ -29,11 +29,11 @@ AreOfTerms terms books =
 abbrev pub books_of : List PassState → List BookName
 books_of passes = map (λ (pass : PassState). pass.book) passes
 
--- which classes books are of
+-- the shared classes that have these terms and these books
 abbrev pub name_of : ClassTerms → List BookName → ClassesName
 name_of terms books = record { books = books; terms = terms }
 
--- the pass with a pass of the book of each class
+-- the pass over all classes that has these passes, one of the book of each class
 abbrev pub class_pass_of : ClassTerms → List PassState → ClassPassState
 class_pass_of terms passes =
     record { classes = name_of terms (books_of passes); states = states_from terms.class_of 0 passes }

@@ -73,7 +73,7 @@ pub record AreNumbered (class_of numbers : List ℕ) (rows : List (List ℕ)) : 
   pub rows_are : (class : ℕ) → class < length rows → slice_index_or rows class [] ≡ rows_in class_of class
   pub numbered : (row class : ℕ) → IsOfClass class_of class row → slice_get (rows_in class_of class) (slice_index numbers row) ≡ Some row
 
--- the tables of the classes
+-- what the tables of the classes keep: each row's class is one that there is, and rows are numbered within their class
 pub record KeepsClasses (class_of numbers : List ℕ) (rows : List (List ℕ)) : Type 0 where
   pub few : length class_of + 1 < 2 ^ 32
   pub within : All (λ class. class < length rows) class_of
