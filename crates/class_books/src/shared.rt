@@ -189,9 +189,9 @@ fn deal(alloc: Global, all: &mut Vec<ClassPass>, passes: Vec<Pass>) -> Result<()
     Ok(())
 }
 
-// All passes of the last class's book, for it to be closed with. They are taken out of `others`, in order, and
-// then of `last`, which together are all passes of the classes. They come in the room that `last` has for
-// them, so that no memory is taken.
+// All passes of the last class's book, for it to be closed with. They are taken out of `others`, in order,
+// and then of `last`, which together are all passes of the classes. They come in the room that `last` has
+// for them, so that no memory is taken.
 fn gather(others: &mut Vec<ClassPass>, last: &mut ClassPass) -> Vec<Pass>
     requires some { 0 < length last.old.classes.books }
     requires same { All (λ pass. pass.classes ≡ last.old.classes) others.old.items }

@@ -42,8 +42,8 @@ impl TableRule<(), Known, Terms> for HistoryRule {
     ghost first = { first_known };
 }
 
-/// The entry that a try is to enter, for contracts alone. A step sees a word and not the ranking behind it, so
-/// the proof names the entry.
+/// The entry that a try is to enter, for contracts alone. A step sees a word and not the ranking behind it,
+/// so the proof names the entry.
 pub trait Tried {
     ghost use Rattle.donor_book.specs.declared.claim.Entry.{Entry};
 
