@@ -1,4 +1,4 @@
-//! Why a program that is timed tells nothing, with its exit status and its words.
+//! Why a program that is timed, a bench, tells nothing, with its exit status and its words.
 ghost use Rattle.std.specs.Prelude.{◌≡◌};
 ghost use Rattle.bench_frame.specs.Faults.{status_of, text_of};
 
@@ -26,7 +26,8 @@ pub enum Fault {
 }
 
 impl Fault {
-    /// The exit status of a bench that ends with this fault.
+    /// The exit status of a bench that ends with this fault: from 2 to 7, where 0 is that of success, and 6 that
+    /// of a printer that failed.
     pub fn status(self) -> u8
         ensures { result ≡ status_of self }
     {
@@ -62,7 +63,7 @@ impl From<WordsFault> for Fault {
 
     ghost from_gives = { λ cause fault. fault ≡ fault_of cause };
 
-    // Words that are no text are not in form; else memory was refused as they were taken.
+    // Lets `?` turn a fault of the words into one of the bench: words that are no text are not in form.
     fn from(cause: WordsFault) -> Self {
         match cause {
             WordsFault::NotText => Fault::Usage,
@@ -77,7 +78,7 @@ impl From<OutOfMemory> for Fault {
 
     ghost from_gives = { λ _ fault. fault ≡ faults.OutOfMemory };
 
-    // Memory that is refused is one of the faults.
+    // Lets `?` turn the refusal of memory into a fault of the bench.
     fn from(_refused: OutOfMemory) -> Self {
         Fault::OutOfMemory
     }
@@ -89,7 +90,7 @@ impl From<AllocError> for Fault {
 
     ghost from_gives = { λ _ fault. fault ≡ faults.OutOfMemory };
 
-    // Memory that the standard library refuses is one of the faults.
+    // Lets `?` turn a refusal of the standard library into a fault of the bench.
     fn from(_refused: AllocError) -> Self {
         Fault::OutOfMemory
     }
@@ -101,7 +102,7 @@ impl<T: Drop> From<AllocFailed<T>> for Fault {
 
     ghost from_gives = { λ _ fault. fault ≡ faults.OutOfMemory };
 
-    // Memory that is refused is one of the faults. What found no room is dropped.
+    // Lets `?` turn such a refusal into a fault of the bench. What found no room is dropped.
     fn from(_refused: AllocFailed<T>) -> Self {
         Fault::OutOfMemory
     }

@@ -1,5 +1,7 @@
 //! The end of a bench: what it prints, and its exit status. In contracts, `Told` relates what the printer
 //! had printed before and after, and `in_lines` has a text with a line feed behind its last line.
+//! `printed_after` and `status_after` are the text and the status after what a bench told, and `IsLeft` says
+//! what may be printed by each exit status.
 ghost use Rattle.std.specs.Prelude.{◌≡◌, ◌≢◌, ◌⊎◌, IfOk};
 ghost use Rattle.std.specs.Process.{exit_status};
 ghost use Rattle.edit_desk.specs.Desk.{Told, raised};
@@ -21,8 +23,8 @@ pub struct Ending {
     pub status: u8,
 }
 
-/// The end of a bench that told this: its text and status 0, or the words for its fault, in a line, and the
-/// fault's status. `usage` is the bench's text of how it is called.
+/// How a bench ends that told this. A text is printed as it is, and the status is 0. Of a fault its words are
+/// printed, in a line, and the status is the fault's. `usage` is the bench's text of how it is called.
 pub fn ending_of(
     alloc: Global,
     usage: &str,
@@ -42,9 +44,9 @@ pub fn ending_of(
     }
 }
 
-/// Prints what a bench told, or why it told nothing, in whole lines, and answers its exit status, as
+/// The last call of a bench: prints what it told, or why it told nothing, and answers its exit status, as
 /// [`ending_of`] has both. The status is 6 exactly where the printer failed; then some first bytes may be
-/// printed. It is 7 where memory was refused. `usage` is the bench's text of how it is called.
+/// printed. It is 7 also where memory is refused here. `usage` is the bench's text of how it is called.
 pub fn leave<P: Printer>(
     alloc: Global,
     printer: &mut P,
@@ -66,8 +68,8 @@ pub fn leave<P: Printer>(
     }
 }
 
-// Prints the text, and a line feed behind its last line if none stands there. Of an empty text nothing is
-// printed. The answer tells whether the printer failed.
+// Prints the text, by one call of the printer, with one line feed at its end whether it has one or not. Of an
+// empty text nothing is printed. `Err` where the printer failed.
 fn print_lines<P: Printer>(printer: &mut P, text: &[u8]) -> Result<(), PrintFailed>
     ensures printed { Told (P.printed printer.old) (P.printed printer.new) (λ old new. PrintsText old new (in_lines text.now) result) }
     ensures faults { P.faults printer.new ≡ after_line result (P.faults printer.old) }
