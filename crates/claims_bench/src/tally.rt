@@ -26,15 +26,15 @@ pub struct Plan {
     pub threads: u32,
 }
 
-/// How many numbers were drawn, and the claims in order.
+/// How many numbers were drawn, and the claims in order, each with the row and the donor that it was given.
 #[derive(Drop)]
 pub struct Tally {
     pub drawn: u32,
     pub history: Vec<Won>,
 }
 
-/// Draws the tickets and claims for their rows with the threads of the plan, and tells what was drawn
-/// and claimed. `IsServed` bounds the plan: at most 10^7 tickets, and 1 to 64 threads. `IsTally` says
+/// Draws all tickets and claims a donor for the row of each, with the threads of the plan, and tells what was
+/// drawn and claimed. `IsServed` bounds the plan: at most 10^7 tickets, and 1 to 64 threads. `IsTally` says
 /// that all tickets were drawn, and that the claims are a legal history.
 pub fn carry_out<R: Threads + Sync>(rt: &R, alloc: Global, plan: Plan) -> Result<Tally, OutOfMemory>
     requires { IsServed plan }
@@ -83,7 +83,7 @@ fn run_all<R: Threads + Sync>(
     )?)
 }
 
-// A worker for each seat, with the pass at the same place of the other list, which is as long.
+// One worker for each thread: each seat with the pass at the same place of the other list, which is as long.
 fn workers_of(
     alloc: Global,
     seats: Vec<Seat>,

@@ -1,4 +1,4 @@
--- What is told of the closes' answers.
+-- What the answers of closing the tickets and the book say, and what is printed of them.
 use Rattle.std.specs.Prelude.{◌≡◌, ℕ, List}
 use Rattle.donor_book.specs.declared.claim.Entry.{Entry}
 use Rattle.donor_book.specs.declared.rule.Terms.{Terms}

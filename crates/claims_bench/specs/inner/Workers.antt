@@ -16,7 +16,7 @@ pub record IsReady (row : Row) (book : BookName) (worker : Worker) : Type 0 wher
   pub seat : worker.seat.row ≡ row
   pub pass : worker.pass.book ≡ book
 
--- and it has drawn until none was left
+-- the worker is one of these tickets and of this book, and has drawn until none was left
 pub record HasRun (row : Row) (book : BookName) (worker : Worker) : Type 0 where
   pub ready : IsReady row book worker
   pub ended : worker.seat.ended ≡ true
@@ -25,6 +25,6 @@ pub record HasRun (row : Row) (book : BookName) (worker : Worker) : Type 0 where
 abbrev pub seats_of : List Worker → List SeatState
 seats_of workers = map (λ (w : Worker). w.seat) workers
 
--- and their passes
+-- the passes of the workers
 abbrev pub passes_of : List Worker → List PassState
 passes_of workers = map (λ (w : Worker). w.pass) workers
