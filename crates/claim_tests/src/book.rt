@@ -5,15 +5,15 @@ use donor_book::{Book, Claim};
 use std::alloc::Global;
 use std::test::Fail;
 
-// A ranking of donors with these numbers.
+// The ranking of the donors with these numbers, in this order, as `claim_on` takes it.
 fn donors(alloc: Global, numbers: &[u32]) -> Result<Vec<u32>, Fail>
     ensures { IfOk result (λ donors. donors.items ≡ numbers.now) }
 {
     Ok(Vec::from_slice(alloc, numbers)?)
 }
 
-// Two donors, each given once, and three rows that rank donor 1 first. The row that claims again has what
-// it had.
+// Two donors, each given at most once, and three rows that rank donor 1 first: the third is given nobody. The
+// row that claims again is told what it had.
 #[test]
 fn a_row_is_given_the_first_donor_with_uses_left(rt: HostRuntime) -> Result<(), Fail> {
     let alloc = rt.alloc();
@@ -34,8 +34,8 @@ fn a_row_is_given_the_first_donor_with_uses_left(rt: HostRuntime) -> Result<(), 
     Ok(())
 }
 
-// One donor, given twice. A row that ranks nobody is given nobody, and so is the third that ranks the
-// donor.
+// One donor, given at most twice. A row that ranks no donor is given nobody, and so is the third row that
+// ranks the donor.
 #[test]
 fn a_donor_is_given_as_often_as_the_limit(rt: HostRuntime) -> Result<(), Fail> {
     let alloc = rt.alloc();

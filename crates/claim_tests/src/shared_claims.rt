@@ -23,7 +23,8 @@ const LIMIT: u32 = 2;
 // How many threads claim.
 const THREADS: u32 = 4;
 
-/// How many threads have begun, and how many claims of all threads were answered by a donor, and by nobody.
+/// What the threads count together: how many of them have begun, and how many claims were answered by a donor,
+/// and by nobody.
 #[derive(Drop)]
 struct Told {
     begun: AtomicU64,
@@ -44,8 +45,9 @@ fn ranking_of(row_no: u32) -> [u32; 4]
     ]
 }
 
-// Claims a donor for each row, from the row `first` on, past the last one on from row 0, and counts the
-// answers. `pass` is one of the book. A row that another thread claimed for before counts nothing.
+// Claims a donor for each row, from `pass`, which is one of the book, and counts the answers in `told`. It
+// begins at the row `first`, and goes on from row 0 behind the last one. A row that another thread claimed
+// for before counts nothing.
 fn claim_all(book: &SharedBook, mut pass: Pass, first: u32, told: &Told) -> Pass
     requires book { pass.book ≡ book.now }
     requires terms { (book.now.terms.rows ≡ 10000) × (book.now.terms.donors ≡ 3000) }
@@ -63,7 +65,7 @@ fn claim_all(book: &SharedBook, mut pass: Pass, first: u32, told: &Told) -> Pass
     pass
 }
 
-// Waits until all threads have begun, so that they claim side by side, but not for ever.
+// Waits until all threads have begun, so that they claim side by side; after 10,000 looks it waits no longer.
 fn wait_for_all(told: &Told) {
     for _ in 0..10_000 {
         if told.begun.load(Ordering::SeqCst) >= THREADS as u64 {
@@ -73,8 +75,8 @@ fn wait_for_all(told: &Told) {
     }
 }
 
-// The history of the book for which four threads claim, each beginning at a row of its own, 2500 rows
-// apart.
+// The history of a book for which four threads claim, each for all rows. They begin at rows of their own, 2500
+// apart, and count their answers in `told`.
 fn claims_by_four<R: Threads + Sync>(
     rt: &R,
     alloc: Global,
@@ -106,6 +108,7 @@ fn answer_of(reply: Option<u32>) -> Claim {
 }
 
 // Whether a book of one thread answers each claim of the history, in its order, as it was answered there.
+// False also where a row is none of the file's.
 fn is_answered_again(alloc: Global, history: &[Won]) -> Result<bool, OutOfMemory> {
     let mut book = Book::start(alloc, DONORS, LIMIT, ROWS)?;
     for won in history {
@@ -120,7 +123,7 @@ fn is_answered_again(alloc: Global, history: &[Won]) -> Result<bool, OutOfMemory
     Ok(true)
 }
 
-// How often the donor was given, in the history, that was given most.
+// How often the donor was given that was given most often in the history; 0 where none was given.
 fn most_given(alloc: Global, history: &[Won]) -> Result<u32, OutOfMemory> {
     let mut uses = vec![in alloc; 0u32; DONORS as usize]?;
     let mut most = 0;

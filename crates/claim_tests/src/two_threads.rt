@@ -21,7 +21,7 @@ fn claim_first(book: &SharedBook, mut pass: Pass, row_no: u32) -> (Pass, Claim)
     (pass, answer)
 }
 
-// The list of two passes, for the book to be closed with.
+// The list of these two passes, with which the book is closed.
 fn pair(alloc: Global, one: Pass, two: Pass) -> Result<Vec<Pass>, OutOfMemory>
     ensures { IfOk result (λ v. v.items ≡ one ∷ two ∷ []) }
 {
@@ -31,8 +31,8 @@ fn pair(alloc: Global, one: Pass, two: Pass) -> Result<Vec<Pass>, OutOfMemory>
     Ok(both)
 }
 
-// Two threads claim the one donor, which is given once, for the rows `first` and `second`: the history,
-// and the answer to each.
+// Two threads claim the one donor, which is given at most once, for the rows `first` and `second` of two. The
+// answer has the history, and what each thread was answered.
 fn claim_by_two<R: Threads + Sync>(
     rt: &R,
     alloc: Global,
