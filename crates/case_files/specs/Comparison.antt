@@ -2,7 +2,7 @@
 use Rattle.std.specs.Prelude.{ℕ, Bool, true, false, ◌&&◌, List, [], ◌∷◌}
 use Rattle.std.specs.Str.{bytes_eq}
 
--- the same lines in the same order
+-- whether both lists have the same lines in the same order
 abbrev pub are_same : List (List ℕ) → List (List ℕ) → Bool
 are_same [] [] = true
 are_same [] (line ∷ lines) = false

@@ -48,9 +48,9 @@ pub enum Command<'a> {
 }
 
 impl<'a> Command<'a> {
-    /// The command of these words; those beside the commands of files are `C`'s. The file of a `Write`
-    /// has no bytes yet: they stand in the lines behind the command. `Kind::Command` where no command
-    /// has these words, and `Kind::Spelling` where a text of `sed` is out of form.
+    /// The command that these words spell: one of those of files, and else one of `C`'s. The file of a
+    /// `Write` has no bytes yet: they stand in the lines behind the command. `Kind::Command` where no
+    /// command has these words, and `Kind::Spelling` where a text of `sed` is out of form.
     pub fn of<C: Commands>(alloc: Global, words: &[&'a str]) -> Result<Command<'a>, PartFault> {
         match words {
             ["cat", name, "<<EOF"] => match name.strip_prefix('>') {
@@ -78,7 +78,8 @@ impl<'a> Command<'a> {
         }
     }
 
-    /// Whether a case begins with the command.
+    /// Whether a case begins with the command, as one of the program's own may say. Commands of files never
+    /// begin one.
     pub fn begins_case(&self) -> bool {
         matches!(
             self,
@@ -90,8 +91,8 @@ impl<'a> Command<'a> {
     }
 }
 
-// The command of these words among `C`'s, which are the program's own. `Kind::Command` where it has
-// none.
+// The command of the program's own that these words spell, as `C` knows them. `Kind::Command` where it has no
+// such command.
 fn own_command<'a, C: Commands>(
     alloc: Global,
     words: &[&'a str],
@@ -105,8 +106,8 @@ fn own_command<'a, C: Commands>(
     }
 }
 
-// The command that writes a file of `count` lines, each this text. `name` is the word for the file, which
-// has a `>` in front. `Kind::Command` where a word is not in form.
+// The command `yes TEXT | head -n N >NAME`, which writes a file of `count` lines, each this text. `name` is the
+// word for the file, with the `>` in front. `Kind::Command` where `count` is no number or `name` has no `>`.
 fn repeat_command<'a>(text: &'a str, count: &str, name: &'a str) -> Result<Command<'a>, PartFault> {
     match (number_of(count), name.strip_prefix('>')) {
         (Some(count), Some(name)) => Ok(Command::Repeat { text, count, name }),
@@ -114,9 +115,9 @@ fn repeat_command<'a>(text: &'a str, count: &str, name: &'a str) -> Result<Comma
     }
 }
 
-// The changes that these words ask for: each second of them is a script, behind `-e`. `Kind::Command`
-// where that is not so, or a script has another form, and `Kind::Spelling` where its text is out of
-// form.
+// The changes of lines that the words of a `sed` ask for: `-e` and a script, any number of times, in order.
+// `Kind::Command` where that is not so, or a script has another form, and `Kind::Spelling` where its text is
+// out of form.
 fn edits_of(alloc: Global, words: &[&str]) -> Result<Vec<LineEdit>, PartFault> {
     let mut edits = Vec::new(alloc);
     for pair in words.chunks(2) {

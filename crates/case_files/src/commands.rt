@@ -22,8 +22,8 @@ pub trait Commands: Drop {
     /// What is kept before the first command of a file of cases.
     fn start(alloc: Global) -> Self;
 
-    /// Whether a case begins with a command of these words, or None where the program has no such
-    /// command.
+    /// What a command of these words is: whether a case begins with it. None where the program has no such
+    /// command. It is asked as a file of cases is read, before any command is done.
     fn role_of(words: &[&str]) -> Option<Role>;
 
     /// Does the command of these words, and gives the lines of its output, as they are spelled. A

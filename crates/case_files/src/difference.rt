@@ -1,11 +1,12 @@
-//! Whether what came of a command is what was to come, and how it differs.
+//! Whether what came of a command, its output, is what was to come, as the file of cases has it, and how both
+//! differ. All lines are as a file of cases spells them.
 ghost use Rattle.std.specs.Prelude.{◌≡◌, map};
 ghost use Rattle.case_files.specs.Comparison.{are_same};
 
 use foundation::OutOfMemory;
 use std::alloc::Global;
 
-/// Whether the lines that came are those that were expected, in the same order.
+/// Whether the lines that came are those that were expected, all of them and in the same order.
 pub fn is_same(expected: &[&[u8]], came: &[Vec<u8>]) -> bool
     ensures { result ≡ are_same (map (λ line. line.now) expected.now) (map (λ line. line.items) came.now) }
 {
@@ -51,7 +52,7 @@ pub fn difference(
     Ok(lines)
 }
 
-// A line with the byte `mark` in front of it.
+// The line with the byte `mark` in front of it: `-` for one that was to come, `+` for one that came.
 fn marked_line(alloc: Global, mark: u8, line: &[u8]) -> Result<Vec<u8>, OutOfMemory> {
     let mut text = Vec::new(alloc);
     text.push(mark)?;

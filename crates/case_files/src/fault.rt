@@ -13,28 +13,28 @@ pub enum Fault {
 }
 
 impl From<OutOfMemory> for Fault {
-    // A call below was refused memory: the run ends.
+    // Lets `?` end the run where a call was refused memory.
     fn from(_refused: OutOfMemory) -> Self {
         Fault::OutOfMemory
     }
 }
 
 impl From<AllocError> for Fault {
-    // Memory was refused: the run ends.
+    // Lets `?` end the run where the standard library refuses memory.
     fn from(_refused: AllocError) -> Self {
         Fault::OutOfMemory
     }
 }
 
 impl<T: Drop> From<AllocFailed<T>> for Fault {
-    // A list was refused memory to grow: the run ends.
+    // Lets `?` end the run where a list was refused memory to grow.
     fn from(_refused: AllocFailed<T>) -> Self {
         Fault::OutOfMemory
     }
 }
 
 impl From<PrintFailed> for Fault {
-    // A line was not printed: the run ends.
+    // Lets `?` end the run where a line was not printed.
     fn from(_failed: PrintFailed) -> Self {
         Fault::Unprinted
     }
@@ -43,7 +43,7 @@ impl From<PrintFailed> for Fault {
 /// What is not in form in a line of a file of cases.
 #[derive(Clone, Copy, Debug, PartialEq, Eq)]
 pub enum Kind {
-    /// The line is no text.
+    /// The line is no UTF-8.
     NoText,
     /// The words are not parted by single spaces, or a quote is open.
     Words,
@@ -58,7 +58,7 @@ pub enum Kind {
 }
 
 impl Kind {
-    /// The words that are printed for what is out of form.
+    /// The words that are printed behind the file's name and the line's number, for what is out of form.
     pub fn text(self) -> &'static str {
         match self {
             Kind::NoText => "no text",
@@ -90,7 +90,8 @@ pub enum PartFault {
 }
 
 impl PartFault {
-    /// The fault of a part of the line of this number, as a fault of the file.
+    /// The same fault, as one of the whole file: the part that is not read stands in the line of this
+    /// `number`, from 1.
     pub fn at(self, number: u64) -> FormFault {
         match self {
             PartFault::Form { kind } => FormFault::Line { number, kind },
@@ -100,21 +101,21 @@ impl PartFault {
 }
 
 impl From<Kind> for PartFault {
-    // What is out of form, in a part of a line whose number is not known yet.
+    // Lets `?` pass on what is out of form in a part of a line. The line's number is told later, by `at`.
     fn from(kind: Kind) -> Self {
         PartFault::Form { kind }
     }
 }
 
 impl From<AllocError> for PartFault {
-    // Memory was refused: the file is not read.
+    // Lets `?` end the reading of a file where the standard library refuses memory.
     fn from(_refused: AllocError) -> Self {
         PartFault::OutOfMemory
     }
 }
 
 impl<T: Drop> From<AllocFailed<T>> for PartFault {
-    // A list was refused memory to grow: the file is not read.
+    // Lets `?` end the reading of a file where a list was refused memory to grow.
     fn from(_refused: AllocFailed<T>) -> Self {
         PartFault::OutOfMemory
     }

@@ -1,5 +1,6 @@
-//! Files in memory, and the commands that make, show and change them. Each command answers the lines of
-//! its output, as they are spelled.
+//! Files in memory, and the commands that make, show and change them. Each command answers the lines of its
+//! output, as a file of cases spells them; one that fails says so in these, and `Err` is for want of memory
+//! alone.
 
 use crate::line_edits::{LineEdit, edit_lines, line_count};
 use crate::spelling::spelled_lines;
@@ -40,7 +41,7 @@ impl Files {
         self.named = named;
     }
 
-    /// Puts the bytes under the name, in the place of what stood there. The output has no lines.
+    /// Puts the bytes into the file of this name, in the place of what stood there. The output has no lines.
     pub(crate) fn write(
         &mut self,
         alloc: Global,
@@ -51,7 +52,8 @@ impl Files {
         Ok(Vec::new(alloc))
     }
 
-    /// The lines of a file, as they are spelled, or that there is none of this name.
+    /// The command `cat NAME`: the lines of the file, as they are spelled. The output says so where there is no
+    /// such file.
     pub(crate) fn show(&self, alloc: Global, name: &str) -> Result<Vec<Vec<u8>>, OutOfMemory> {
         match self.bytes(name) {
             Some(bytes) => spelled_lines(alloc, bytes),
@@ -59,8 +61,8 @@ impl Files {
         }
     }
 
-    /// Puts the bytes of the file `old` under the name `new`. The output has no lines, or says that there
-    /// is no file `old`.
+    /// The command `cp OLD NEW`: puts the bytes of the file `old` under the name `new`. The output has no lines,
+    /// or says that there is no file `old`.
     pub(crate) fn copy(
         &mut self,
         alloc: Global,
@@ -74,8 +76,8 @@ impl Files {
         self.write(alloc, new, bytes)
     }
 
-    /// Takes these files away, in order. The first that is not there ends the command, and the output
-    /// says so; those before it are gone.
+    /// The command `rm NAME ..`: takes these files away, in order. The first that is not there ends the
+    /// command, and the output says so; those before it are gone.
     pub(crate) fn remove(
         &mut self,
         alloc: Global,
@@ -89,7 +91,7 @@ impl Files {
         Ok(Vec::new(alloc))
     }
 
-    /// The names of all files, in order.
+    /// The command `ls`: the names of all files, one a line, in the order of their bytes.
     pub(crate) fn list(&self, alloc: Global) -> Result<Vec<Vec<u8>>, OutOfMemory> {
         let mut names = Vec::new(alloc);
         for name in self.named.keys() {
@@ -98,8 +100,8 @@ impl Files {
         Ok(names)
     }
 
-    /// Changes lines of a file. The output has no lines, or says that there is no such file, or which
-    /// line it doesn't have; then nothing is changed.
+    /// The command `sed -i -e SCRIPT .. NAME`: changes lines of a file. The output has no lines, or says that
+    /// there is no such file, or which line it doesn't have; then nothing is changed.
     pub(crate) fn change(
         &mut self,
         alloc: Global,
@@ -120,7 +122,7 @@ impl Files {
     }
 }
 
-/// The bytes of `count` equal lines of this text.
+/// The bytes of `count` lines, each this text with a line feed, which the command `yes` puts into a file.
 pub(crate) fn equal_lines(alloc: Global, text: &str, count: u64) -> Result<Vec<u8>, OutOfMemory> {
     let mut bytes = Vec::new(alloc);
     for _ in 0..count {
@@ -130,13 +132,13 @@ pub(crate) fn equal_lines(alloc: Global, text: &str, count: u64) -> Result<Vec<u
     Ok(bytes)
 }
 
-/// The output of a command that finds no file of this name, with the status 1.
+/// The output of a command that finds no file of this name: `COMMAND: NAME: no such file`, and the status 1.
 pub fn no_such_file(alloc: Global, command: &str, name: &str) -> Result<Vec<Vec<u8>>, OutOfMemory> {
     let text = format!(in alloc; "{command}: {name}: no such file")?;
     failure_lines(alloc, text, 1)
 }
 
-/// The output of a command that fails: the text, and then the status in square brackets.
+/// The output of a command that fails: two lines, the text, and the status in square brackets, as `[1]`.
 pub fn failure_lines(alloc: Global, text: String, status: u8) -> Result<Vec<Vec<u8>>, OutOfMemory> {
     let mut lines = Vec::new(alloc);
     lines.push(text.into_bytes())?;

@@ -26,8 +26,9 @@ pub struct LineEdit {
 
 impl LineEdit {
     /// The change that a script of `sed` asks for: `Nc\TEXT`, `Nd` or `Na\TEXT`, with a text as
-    /// [`read_escaped`] reads it. N is from 1, and for `a` from 0. `Kind::Command` where the script has
-    /// another form, and `Kind::Spelling` where its text is out of form.
+    /// [`read_escaped`] reads it. They replace a line, leave it out, or put the text behind it. N is from 1,
+    /// and for `a` from 0. `Kind::Command` where the script has another form, and `Kind::Spelling` where its
+    /// text is out of form.
     pub fn read(alloc: Global, script: &str) -> Result<LineEdit, PartFault> {
         let Some((head, text)) = script.split_once('\\') else {
             let Some(line) = script.strip_suffix('d') else {
@@ -60,7 +61,8 @@ impl LineEdit {
     }
 }
 
-// The number of a line that the text writes. `Kind::Command` where it is no number, or is below `least`.
+// The number of a line that the text writes. `Kind::Command` where it is no number, or is below `least`, the
+// first line that the change may name.
 fn line_number(text: &str, least: u64) -> Result<u64, Kind> {
     match number_of(text) {
         Some(number) if number >= least => Ok(number),
@@ -68,8 +70,8 @@ fn line_number(text: &str, least: u64) -> Result<u64, Kind> {
     }
 }
 
-// The bytes of an escaped text, with a line feed behind them. `Kind::Spelling` where the text is out of
-// form.
+// The bytes of the escaped text of a script, with a line feed behind them, so that they are whole lines.
+// `Kind::Spelling` where the text is out of form.
 fn unescaped_line(alloc: Global, text: &str) -> Result<Vec<u8>, PartFault> {
     let mut bytes = Vec::new(alloc);
     read_escaped(&mut bytes, text.as_bytes())?;
@@ -77,14 +79,14 @@ fn unescaped_line(alloc: Global, text: &str) -> Result<Vec<u8>, PartFault> {
     Ok(bytes)
 }
 
-/// How many lines these bytes have. A last one without a line feed counts.
+/// How many lines these bytes have. A last one without a line feed counts; no bytes have no line.
 pub fn line_count(bytes: &[u8]) -> u64 {
     bytes.split_inclusive(|byte| *byte == b'\n').count() as u64
 }
 
-/// The bytes with these changes of their lines. The numbers are those of the lines as they are before any
-/// change. Of two changes that leave out or take the place of one line, the first holds; texts behind one
-/// line all stand there, in order. A change of a line that is not there does nothing.
+/// The bytes with all these changes of their lines made. Lines have the numbers that they have before any
+/// change. Of two changes that leave out or take the place of one line, the first holds. Texts behind one line
+/// all stand there, in order. A change of a line that is not there does nothing.
 pub fn edit_lines(alloc: Global, bytes: &[u8], edits: &[LineEdit]) -> Result<Vec<u8>, OutOfMemory> {
     let mut new = Vec::new(alloc);
     append_texts(&mut new, edits, 0)?;
@@ -102,7 +104,8 @@ pub fn edit_lines(alloc: Global, bytes: &[u8], edits: &[LineEdit]) -> Result<Vec
     Ok(new)
 }
 
-// Appends the texts that are to stand behind the line of this number, each on lines of its own.
+// Appends the texts that the changes put behind the line of this number, each on lines of its own. The number
+// 0 is for those before the first line.
 fn append_texts(new: &mut Vec<u8>, edits: &[LineEdit], number: u64) -> Result<(), OutOfMemory> {
     for edit in edits {
         if let Change::Append { text } = &edit.change
@@ -125,7 +128,7 @@ fn end_line(new: &mut Vec<u8>) -> Result<(), OutOfMemory> {
 }
 
 impl LineEdit {
-    // Whether the change leaves the line itself out, or puts another text in its place.
+    // Whether the line itself goes: it is left out, or another text stands in its place.
     fn removes_line(&self) -> bool {
         !matches!(self.change, Change::Append { .. })
     }

@@ -12,7 +12,8 @@ use std::sync::Wait;
 use std::thread::Threads;
 
 /// Runs the files of cases that the program's words name, and prints what came of each and how many cases
-/// passed and failed. The exit status is 0 where there were cases and all passed, and else 1.
+/// passed and failed. `C` has the commands of the program's own. The exit status is 0 where there were cases
+/// and all passed, and else 1, also where memory was refused, a word is no text or a line was not printed.
 pub fn run_program<
     C: Commands,
     R: Threads + Wait + Sync + Env + Files + Print + AllocGlobal + Clone + Drop,
@@ -36,8 +37,8 @@ pub fn run_program<
     }
 }
 
-// Ends a run that stopped for this fault before all cases were run. Refused memory is told; of a line
-// that could not be printed nothing more can be said.
+// Ends a run that stopped for this fault before all cases were run: the exit status is 1. Refused memory is
+// told by a line; of a line that could not be printed nothing more can be said.
 fn leave<P: Printer>(printer: &mut P, fault: Fault) -> ExitCode {
     if fault == Fault::OutOfMemory {
         let _told = printer.line(b"out of memory");

@@ -39,7 +39,7 @@ impl Count {
         self.passed > 0 && self.failed == 0
     }
 
-    /// The sum of this count and `other`. A sum past 64 bits stays at the greatest number.
+    /// The sum of this count and `other`, of two files. A sum past 64 bits stays at the greatest number.
     pub fn plus(self, other: Count) -> Count
         ensures { result.failed ≡ 0 ↔ (self.failed ≡ 0) × (other.failed ≡ 0) }
     {
@@ -88,7 +88,8 @@ impl Progress {
         }
     }
 
-    /// How many cases were begun, where no output was wrong, and None where one was.
+    /// How many cases the file has, where all its outputs were right, and None where one was wrong. A file
+    /// that is all right is told by one line with this number.
     pub fn cases_if_right(self) -> Option<u64>
         ensures { IsSome result ↔ self.failed ≡ 0 }
     {
@@ -99,7 +100,8 @@ impl Progress {
         }
     }
 
-    /// How many of the file's cases passed, and how many failed.
+    /// How many of the file's cases passed, and how many failed. Where an output was wrong and no case was
+    /// begun, one failed and none passed.
     pub fn count(self) -> Count
         ensures { result.failed ≡ self.failed }
     {

@@ -44,7 +44,7 @@ pub fn run_files<C: Commands, R: Threads + Wait + Sync, D: Desk, P: Printer>(
     Ok(count)
 }
 
-// Prints a line, which is given without its line feed. `Fault::Unprinted` where that fails.
+// Prints a line of the report, which is given without its line feed. `Fault::Unprinted` where that fails.
 fn print_line<P: Printer>(printer: &mut P, line: &str) -> Result<(), Fault> {
     Ok(printer.line(line.as_bytes())?)
 }

@@ -11,14 +11,17 @@ use crate::fault::{Kind, PartFault};
 use foundation::OutOfMemory;
 use std::alloc::Global;
 
+// What stands behind a line that is escaped.
 const ESCAPED: &[u8] = b" (esc)";
 
+// What stands behind a last line that has no line feed.
 const UNENDED: &[u8] = b" (no-eol)";
 
+// The digits of base 16.
 const DIGITS: &[u8; 16] = b"0123456789abcdef";
 
-/// The lines of these bytes, each as a file of cases spells it. Where there are no bytes, there is no
-/// line.
+/// The lines of these bytes, each as a file of cases spells it, to be compared with what was to come. Where
+/// there are no bytes, there is no line.
 pub fn spelled_lines(alloc: Global, bytes: &[u8]) -> Result<Vec<Vec<u8>>, OutOfMemory> {
     let mut lines = Vec::new(alloc);
     for line in bytes.split_inclusive(|byte| *byte == b'\n') {
@@ -61,14 +64,14 @@ fn is_plain(line: &[u8]) -> bool
     are_printable(line)
 }
 
-// Whether all of a line is printable.
+// Whether all bytes of a line are printable, as `is_printable` says.
 fn are_printable(line: &[u8]) -> bool
     ensures { result ≡ list_all is_printable line.now }
 {
     line.iter().all(|byte| is_printable(*byte))
 }
 
-// Whether the byte is a letter, digit or sign of ASCII, or a space.
+// Whether the byte is printable: a letter, digit or sign of ASCII, or a space.
 fn is_printable(byte: u8) -> bool
     ensures { result ≡ is_printable byte }
 {
@@ -91,8 +94,9 @@ fn spell_byte(text: &mut Vec<u8>, byte: u8) -> Result<(), OutOfMemory>
     Ok(())
 }
 
-/// Appends the bytes of the line that is spelled so, and its line feed, where it has one; the answer says
-/// whether it has. `Kind::Spelling` where the line is not printable, or an escape in it is not in form.
+/// Reads a line as a file of cases spells it, `line`, and appends its bytes to `bytes`, with its line feed where
+/// it has one. The answer says whether it has. `Kind::Spelling` where the spelling has a byte that is not
+/// printable, or an escape that is not in form.
 pub fn read_line(bytes: &mut Vec<u8>, line: &[u8]) -> Result<bool, PartFault> {
     let (line, ended) = match line.strip_suffix(UNENDED) {
         Some(line) => (line, false),

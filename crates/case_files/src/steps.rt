@@ -23,9 +23,9 @@ pub struct Step<'a> {
 /// What the next line of a file of cases may be, by the lines before it.
 #[derive(Clone, Copy, Debug, PartialEq, Eq)]
 enum Place {
-    /// Commentary or a command.
+    /// Commentary or a command; output would be of no command.
     Apart,
-    /// These, or output of the last command.
+    /// Commentary, a command, or output of the last command.
     Behind,
     /// A line of the file that the last command writes, or the end of it.
     Within,
@@ -55,9 +55,10 @@ pub fn steps_of<'a, C: Commands>(
     }
 }
 
-// Reads the line of this number, and says what the next may be. `place` says what this one may be.
-// Outside of a file's lines, a line that begins with `  $ ` is a command. Another one with two spaces in
-// front is output, and the rest is commentary. The faults are those of reading the one or the other.
+// Reads the line of this number, from 1, into `steps`, and says what the next line may be. `place` says what
+// this one may be. Outside of the lines of a file that a command writes, a line that begins with `  $ ` is a
+// command, another one with two spaces in front is output, and the rest is commentary. The faults are those
+// of reading these.
 fn take_line<'a, C: Commands>(
     alloc: Global,
     steps: &mut Vec<Step<'a>>,
