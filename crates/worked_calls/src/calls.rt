@@ -19,7 +19,7 @@ use std::thread::Threads;
 pub struct Calls;
 
 impl Commands for Calls {
-    // Nothing is kept from one call to the next.
+    // The commands of this program at the beginning of a file: nothing is kept from one call to the next.
     fn start(_alloc: Global) -> Self {
         Calls
     }
@@ -33,8 +33,8 @@ impl Commands for Calls {
         }
     }
 
-    // Makes the call of these words. Its fault is told as the output of a command that fails; `Err` is
-    // for want of memory alone.
+    // Makes the call of these words, and gives its answer as lines. Its fault is told as the output of a
+    // command that fails, with the status 1; `Err` is for want of memory alone.
     fn perform<R: Threads + Wait + Sync>(
         &mut self,
         _rt: &R,
@@ -50,7 +50,7 @@ impl Commands for Calls {
     }
 }
 
-// Whether a call has this name.
+// Whether one of the calls has this name, so that a command that begins with it is one of this program's.
 fn is_call(word: &str) -> bool {
     matches!(
         word,
@@ -71,8 +71,9 @@ fn is_call(word: &str) -> bool {
     )
 }
 
-// What the call of these words answers. `CallFault::Words` where its name stands alone, or it takes other
-// words.
+// The lines that the call of these words answers. The first word is its name, and the next ones are the files
+// or the record that it is made on. `CallFault::Words` where its name stands alone, or it takes other words;
+// else the faults are those of the call.
 fn call_told(alloc: Global, files: &Files, words: &[&str]) -> Result<Texts, CallFault> {
     match words {
         [name @ ("rank" | "measured"), rules, records, others @ ..] => {
@@ -88,7 +89,8 @@ fn call_told(alloc: Global, files: &Files, words: &[&str]) -> Result<Texts, Call
     }
 }
 
-// Whether the call of this name takes a rule file and no record.
+// Whether the call of this name takes a rule file and no record. All others but `rank` and `measured`, which
+// take a record file, take a rule file and one record.
 fn is_of_rules(name: &str) -> bool {
     matches!(
         name,
@@ -96,8 +98,8 @@ fn is_of_rules(name: &str) -> bool {
     )
 }
 
-// What the call `name` on the rule file `rules` answers; `others` are the words behind these two.
-// `CallFault::Words` where the call takes others; else the faults are those of the call.
+// The lines that the call `name` answers on the rule file of the name `rules`; `others` are the words behind
+// these two. `CallFault::Words` where the call takes others; else the faults are those of the call.
 fn rules_told(
     alloc: Global,
     files: &Files,
@@ -117,9 +119,9 @@ fn rules_told(
     }
 }
 
-// What the call `name` on the rule file `rules` and the record that is spelled so answers; `others` are
-// the words behind these three. `CallFault::Words` where there is no such call, or it takes others; else
-// the faults are those of the call.
+// The lines that the call `name` answers on the rule file of the name `rules` and one record, which the word
+// `record` spells. `others` are the words behind these three. `CallFault::Words` where there is no such call,
+// or it takes others; else the faults are those of the call.
 fn record_told(
     alloc: Global,
     files: &Files,
@@ -144,9 +146,9 @@ fn record_told(
     }
 }
 
-// What the call `name` on the rule file `rules` and the record file `records` answers; `others` are the
-// words behind these three. `CallFault::Words` where the call takes others; else the faults are those of
-// the call.
+// The lines that the call `name`, `rank` or `measured`, answers on the rule file and the record file of the
+// names `rules` and `records`. `others` are the words behind these three. `CallFault::Words` where the call
+// takes others; else the faults are those of the call.
 fn donors_told(
     alloc: Global,
     files: &Files,
@@ -169,10 +171,10 @@ fn donors_told(
     }
 }
 
-// What these words ask for. `path` has letters, `row` is the number of a record, from 1, and `near` is
-// how many donors are ranked at most. `class` has the name of a class field, or nothing.
-// `CallFault::Words` where it has more words or a number is none, and `CallFault::Number` for the record
-// 0.
+// What the words of `rank` or `measured` ask for. `path` has letters, `row` is the number of a record, from 1
+// (from 0 in the answer), and `near` is how many donors are ranked at most. `class` has the name of a class
+// field, or nothing. `CallFault::Words` where it has more words or a word is no number, and
+// `CallFault::Number` for the record 0.
 fn asked_by<'a>(
     path: &'a str,
     row: &str,

@@ -25,8 +25,8 @@ use std::sync::Arc;
 use std::sync::ledger::{Blank, Ledger};
 
 /// What a call asks for: the nearest donors, at most `near`, for the record of the number `row_no`, from
-/// 0. The path keeps fields of it. They are among all donors, or, where `class_field` names a field,
-/// among those that have the record's code there.
+/// 0. The path says by letters, in path order, which fields of it are kept. The donors are among all clean
+/// records, or, where `class_field` names a field, among those that have the record's code there.
 #[derive(Clone, Copy, Debug)]
 pub struct Asked<'a> {
     pub path: &'a str,
@@ -35,22 +35,24 @@ pub struct Asked<'a> {
     pub class_field: Option<&'a str>,
 }
 
-/// How many donors are ranked at most, and by which class field, if by one.
+/// How many donors are ranked at most, and the number of the class field, from 0, if there is one.
 #[derive(Clone, Copy, Debug)]
 struct Among {
     near: u32,
     class_field: Option<u32>,
 }
 
-/// What was found of a record's donors: the nearest ones, and how often two values were measured.
+/// What was found of a record's donors: the nearest ones, by their numbers in the record file, from 0, the
+/// nearest first, and how often two values were measured.
 #[derive(Drop)]
 struct Found {
     donors: Vec<u32>,
     measured: u64,
 }
 
-/// The nearest donors that are asked for, as `donors` and their numbers in the record file, from 1, the
-/// nearest first. The faults are those of `found_in`.
+/// The answer of the call `rank`: one line with `donors` and the numbers, from 1, that the nearest donors have
+/// in the record file, the nearest first. `records` has the bytes of that file. The faults are those of
+/// `found_in`.
 pub fn rank_told(
     alloc: Global,
     survey: &Survey,
@@ -66,8 +68,9 @@ pub fn rank_told(
     only_line(alloc, text.into_bytes())
 }
 
-/// `at most MOST` where two values were measured at most `most` times to find the nearest donors, and
-/// else how often. The faults are those of `found_in`.
+/// The answer of the call `measured`: how often two values were measured to find the nearest donors, in one
+/// line. It is `at most MOST` where that was at most `most` times, and else the number. The faults are those
+/// of `found_in`.
 pub fn measured_told(
     alloc: Global,
     survey: &Survey,
@@ -84,7 +87,7 @@ pub fn measured_told(
     only_line(alloc, text.into_bytes())
 }
 
-// What is found of the donors of the record that is asked for, in the record file of these bytes.
+// Reads the record file of these bytes, and finds the nearest donors for the record that is asked for.
 // `CallFault::Path` and `Field` where the path or the class field is none, and `Number` where a number
 // has more than 32 bits. `Record` where the file has no reading; else the faults are those of
 // `nearest_donors`.
@@ -106,7 +109,7 @@ fn found_in(
     nearest_donors::<Brand>(alloc, survey, &sheet, &path, row_no, among, Blank::new(1))
 }
 
-// The number of the field that is named as the class field, from 0, and None where none is named.
+// The number, from 0, of the field of the survey that is named as the class field; None where none is named.
 // `CallFault::Field` where the survey has no field of the name.
 fn class_field_of(survey: &Survey, name: Option<&str>) -> Result<Option<u32>, CallFault> {
     let Some(name) = name else {
@@ -146,7 +149,7 @@ fn deck_for(
     }
 }
 
-// The nearest donors for the record of the number `row_no`, from 0, of which the path keeps fields. With
+// The nearest donors for the record of the number `row_no`, from 0, by the fields that the path keeps. With
 // them comes how often two values were measured: the measure counts its own calls in a cell.
 // `CallFault::Number` where there is no such record, `Path` where the path is longer than there are
 // fields, and else the fault of `deck_for`. `blank` is one of the ledger `L` (`name`, `parts`), and
