@@ -1,4 +1,6 @@
-//! What the words of a command line ask for, as one line: cases of the command line compare it.
+//! What the words of a command line ask for, as one line: worked cases show it, so that the reading of words
+//! is tested without a run. Each helper but two looks for one command. It answers an empty text where the
+//! words are not this command's, so that only one of them tells something.
 
 use command_words::{
     EditWords, check_asked, classed_asked, edit_asked, fill_asked, make_asked, page_asked,
@@ -7,9 +9,9 @@ use command_words::{
 use foundation::OutOfMemory;
 use std::alloc::Global;
 
-/// The line that tells what the words ask for, with its line feed. It has the command, its files and
-/// names in the order of its options, and then its numbers; or it is `nothing`. Where the words asked for
-/// two commands, both would be told.
+/// The line that tells what the words of a command line ask for, with its line feed. It has the command, its
+/// files and names in the order of its options, and then its numbers. It is `nothing` where the words ask
+/// for no command. Where they asked for two, both would be told.
 pub fn asked_line(alloc: Global, words: &[String]) -> Result<Vec<u8>, OutOfMemory> {
     let mut line = Vec::new(alloc);
     for told in [
@@ -31,8 +33,8 @@ pub fn asked_line(alloc: Global, words: &[String]) -> Result<Vec<u8>, OutOfMemor
     Ok(line)
 }
 
-// The edit that the words ask for, with its five files and its four numbers; no text where they ask for
-// none.
+// The command `edit`, as the words ask for it, with its five files and its four numbers. The text is empty
+// where they don't ask for it.
 fn edit_told(alloc: Global, words: &[String]) -> Result<String, OutOfMemory> {
     let Some(asked) = edit_asked(alloc, words)? else {
         return Ok(String::new(alloc));
@@ -41,8 +43,8 @@ fn edit_told(alloc: Global, words: &[String]) -> Result<String, OutOfMemory> {
     Ok(format!(in alloc; "edit {files} {numbers}")?)
 }
 
-// The edit by classes that the words ask for: its five files, the name of its class field and its four
-// numbers. No text where they ask for none.
+// The command `classed`, an edit by classes, as the words ask for it: its five files, the name of its class
+// field and its four numbers. The text is empty where they don't ask for it.
 fn classed_told(alloc: Global, words: &[String]) -> Result<String, OutOfMemory> {
     let Some(asked) = classed_asked(alloc, words)? else {
         return Ok(String::new(alloc));
@@ -55,22 +57,23 @@ fn classed_told(alloc: Global, words: &[String]) -> Result<String, OutOfMemory> 
     Ok(format!(in alloc; "classed {files} {class} {numbers}")?)
 }
 
-// The five files of an edit, in the order of its options.
+// The names of the five files of an edit, in the order of its options, with spaces between.
 fn files_told(alloc: Global, asked: &EditWords) -> Result<String, OutOfMemory> {
     let (rules, records, released) = (asked.rules, asked.records, asked.released);
     let (reasons, proof) = (asked.reasons, asked.proof);
     Ok(format!(in alloc; "{rules} {records} {released} {reasons} {proof}")?)
 }
 
-// The four numbers of an edit: its workers, its budget, the limit of a donor, and how many donors a
-// record ranks.
+// The four numbers of an edit, with spaces between: its workers, its budget, the limit of a donor, and how
+// many donors a record ranks.
 fn numbers_told(alloc: Global, asked: &EditWords) -> Result<String, OutOfMemory> {
     let (workers, budget) = (asked.workers, asked.budget);
     let (limit, near) = (asked.limit, asked.near);
     Ok(format!(in alloc; "{workers} {budget} {limit} {near}")?)
 }
 
-// The check that the words ask for, with its four files; no text where they ask for none.
+// The command `check`, as the words ask for it, with its four files. The text is empty where they don't ask
+// for it.
 fn check_told(alloc: Global, words: &[String]) -> Result<String, OutOfMemory> {
     let Some(asked) = check_asked(alloc, words)? else {
         return Ok(String::new(alloc));
@@ -80,7 +83,7 @@ fn check_told(alloc: Global, words: &[String]) -> Result<String, OutOfMemory> {
     Ok(format!(in alloc; "check {rules} {records} {released} {proof}")?)
 }
 
-// The command `rules` that the words ask for, with its file; no text where they ask for another.
+// The command `rules`, as the words ask for it, with its file. The text is empty where they don't ask for it.
 fn rules_told(alloc: Global, words: &[String]) -> Result<String, OutOfMemory> {
     let Some(asked) = rules_asked(alloc, words)? else {
         return Ok(String::new(alloc));
@@ -89,7 +92,8 @@ fn rules_told(alloc: Global, words: &[String]) -> Result<String, OutOfMemory> {
     Ok(format!(in alloc; "rules {rules}")?)
 }
 
-// The filling that the words ask for, with its files and its budget; no text where they ask for none.
+// The command `fill`, as the words ask for it, with its three files and its budget. The text is empty where
+// they don't ask for it.
 fn fill_told(alloc: Global, words: &[String]) -> Result<String, OutOfMemory> {
     let Some(asked) = fill_asked(alloc, words)? else {
         return Ok(String::new(alloc));
@@ -99,8 +103,8 @@ fn fill_told(alloc: Global, words: &[String]) -> Result<String, OutOfMemory> {
     Ok(format!(in alloc; "fill {rules} {records} {released} {budget}")?)
 }
 
-// The edit of a panel that the words ask for, with its files, its key and its budget; no text where they
-// ask for none.
+// The command `panel`, the edit of a panel, as the words ask for it, with its six files, its key and its
+// budget. The text is empty where they don't ask for it.
 fn panel_told(alloc: Global, words: &[String]) -> Result<String, OutOfMemory> {
     let Some(asked) = panel_asked(alloc, words)? else {
         return Ok(String::new(alloc));
@@ -113,8 +117,8 @@ fn panel_told(alloc: Global, words: &[String]) -> Result<String, OutOfMemory> {
     )?)
 }
 
-// The survey that the words ask to be made, with its files, the number to start from and how many rows.
-// No text where they ask for none.
+// The command `make`, which makes a survey, as the words ask for it, with its two files, the number that its
+// random numbers start from, and how many rows. The text is empty where they don't ask for it.
 fn make_told(alloc: Global, words: &[String]) -> Result<String, OutOfMemory> {
     let Some(asked) = make_asked(alloc, words)? else {
         return Ok(String::new(alloc));
@@ -124,8 +128,8 @@ fn make_told(alloc: Global, words: &[String]) -> Result<String, OutOfMemory> {
     Ok(format!(in alloc; "make {rules} {records} {start} {rows}")?)
 }
 
-// The page that the words ask for, with its files; no text where they ask for none. It is a command of
-// another program.
+// The command `page`, as the words ask for it, with its five files. It is a command of another program. The
+// text is empty where they don't ask for it.
 fn page_told(alloc: Global, words: &[String]) -> Result<String, OutOfMemory> {
     let Some(asked) = page_asked(alloc, words)? else {
         return Ok(String::new(alloc));

@@ -21,7 +21,8 @@ pub enum Own<'a> {
 }
 
 impl<'a> Own<'a> {
-    /// The command of these words. None where there is none, or a number in it is not in form.
+    /// The command that these words spell. None where there is no such command, or a number in it is not in
+    /// form.
     pub fn of(words: &'a [&'a str]) -> Option<Own<'a>> {
         match words {
             ["forxainde", words @ ..] => Some(Own::Run { words }),
@@ -40,7 +41,8 @@ impl<'a> Own<'a> {
         }
     }
 
-    /// What it is among the commands of a file: a case begins with a run, or with words.
+    /// What the command is among those of a file of cases: a case begins with a run, or with `words`. The
+    /// others follow in a case that was begun, or stand before the first one.
     pub fn role(self) -> Role {
         match self {
             Own::Run { .. } | Own::Words { .. } => Role::Begins,

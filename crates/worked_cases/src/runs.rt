@@ -34,13 +34,14 @@ impl Commands for Runs {
         }
     }
 
-    // A case begins with a run or with `words`; None where the words are no command.
+    // Whether a case begins with the command of these words: it does with a run or with `words`. None where
+    // they are no command of this program.
     fn role_of(words: &[&str]) -> Option<Role> {
         Some(Own::of(words)?.role())
     }
 
-    // Does the command of these words. The case of no command can't come, since the file was read by
-    // `role_of`.
+    // Does the command of these words, and gives the lines of its output. The case of no command can't come,
+    // since the file was read by `role_of`; it has no output.
     fn perform<R: Threads + Wait + Sync>(
         &mut self,
         rt: &R,
@@ -66,8 +67,9 @@ impl Commands for Runs {
 }
 
 impl Runs {
-    // Runs the program over the files, that of pages where the first word is `page`. The output is what
-    // it prints and, where it is not 0, its status. The failures that were asked for are used up by it.
+    // Runs the program with these words, over the files, as `forxainde WORD ..` asks: that of pages where the
+    // first word is `page`. The output is what it prints and, where it is not 0, its status in brackets. The
+    // failures that were asked for are used up by it, and the calls of its desk are kept for `calls`.
     fn run_command_line<R: Threads + Wait + Sync>(
         &mut self,
         rt: &R,
@@ -96,13 +98,13 @@ impl Runs {
     }
 }
 
-// The line that tells what the words ask for, as the output of `words`.
+// The output of the command `words`: the line that tells what its words ask for, as a file of cases spells it.
 fn words_told(alloc: Global, words: &[&str]) -> Result<Vec<Vec<u8>>, OutOfMemory> {
     let line = asked_line(alloc, &copy_words(alloc, words)?)?;
     spelled_lines(alloc, &line)
 }
 
-// Copies of the words, each in memory of its own, as the program takes them.
+// A list of the same words, each in memory of its own, as the program takes them.
 fn copy_words(alloc: Global, words: &[&str]) -> Result<Vec<String>, AllocError> {
     let mut all = Vec::new(alloc);
     for word in words {
@@ -124,7 +126,7 @@ fn call_lines(alloc: Global, calls: &[Call]) -> Result<Vec<Vec<u8>>, OutOfMemory
     Ok(lines)
 }
 
-// Copies of these lines.
+// A copy of these lines, as the output of `calls`: the lines themselves stay for the next such command.
 fn copy_lines(alloc: Global, lines: &[Vec<u8>]) -> Result<Vec<Vec<u8>>, OutOfMemory> {
     let mut all = Vec::new(alloc);
     for line in lines {
