@@ -1,7 +1,7 @@
 //! The end of a bench: what it prints, and its exit status. In contracts, `Told` relates what the printer
 //! had printed before and after, and `in_lines` has a text with a line feed behind its last line.
-//! `printed_after` and `status_after` are the text and the status after what a bench told, and `IsLeft` says
-//! what may be printed by each exit status.
+//! `printed_after` and `status_after` are the text and the status after what a bench told, and `IsLeft`
+//! says what may be printed by each exit status.
 ghost use Rattle.std.specs.Prelude.{◌≡◌, ◌≢◌, ◌⊎◌, IfOk};
 ghost use Rattle.std.specs.Process.{exit_status};
 ghost use Rattle.edit_desk.specs.Desk.{Told, raised};
@@ -23,8 +23,9 @@ pub struct Ending {
     pub status: u8,
 }
 
-/// How a bench ends that told this. A text is printed as it is, and the status is 0. Of a fault its words are
-/// printed, in a line, and the status is the fault's. `usage` is the bench's text of how it is called.
+/// How a bench ends that told this. A text is printed as it is, and the status is 0. Of a fault its words
+/// are printed, in a line, and the status is the fault's. `usage` is the bench's text of how it is
+/// called.
 pub fn ending_of(
     alloc: Global,
     usage: &str,
@@ -68,8 +69,8 @@ pub fn leave<P: Printer>(
     }
 }
 
-// Prints the text, by one call of the printer, with one line feed at its end whether it has one or not. Of an
-// empty text nothing is printed. `Err` where the printer failed.
+// Prints the text, by one call of the printer, with one line feed at its end whether it has one or not.
+// Of an empty text nothing is printed. `Err` where the printer failed.
 fn print_lines<P: Printer>(printer: &mut P, text: &[u8]) -> Result<(), PrintFailed>
     ensures printed { Told (P.printed printer.old) (P.printed printer.new) (λ old new. PrintsText old new (in_lines text.now) result) }
     ensures faults { P.faults printer.new ≡ after_line result (P.faults printer.old) }

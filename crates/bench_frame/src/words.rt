@@ -2,8 +2,8 @@
 ghost use Rattle.std.specs.Prelude.{◌≡◌};
 ghost use Rattle.bench_frame.specs.Numbers.{number_in};
 
-/// The number that the text writes in decimal digits; zeros may stand in front. None where the text is empty or
-/// has another character, as a sign, or where the number is below `least` or above `most`.
+/// The number that the text writes in decimal digits; zeros may stand in front. None where the text is
+/// empty or has another character, as a sign, or where the number is below `least` or above `most`.
 pub fn number_in(text: &str, least: u64, most: u64) -> Option<u64>
     ensures { result ≡ number_in text.now least most }
 {

@@ -91,8 +91,8 @@ impl<'a> Command<'a> {
     }
 }
 
-// The command of the program's own that these words spell, as `C` knows them. `Kind::Command` where it has no
-// such command.
+// The command of the program's own that these words spell, as `C` knows them. `Kind::Command` where it
+// has no such command.
 fn own_command<'a, C: Commands>(
     alloc: Global,
     words: &[&'a str],
@@ -106,8 +106,9 @@ fn own_command<'a, C: Commands>(
     }
 }
 
-// The command `yes TEXT | head -n N >NAME`, which writes a file of `count` lines, each this text. `name` is the
-// word for the file, with the `>` in front. `Kind::Command` where `count` is no number or `name` has no `>`.
+// The command `yes TEXT | head -n N >NAME`, which writes a file of `count` lines, each this text. `name`
+// is the word for the file, with the `>` in front. `Kind::Command` where `count` is no number or `name`
+// has no `>`.
 fn repeat_command<'a>(text: &'a str, count: &str, name: &'a str) -> Result<Command<'a>, PartFault> {
     match (number_of(count), name.strip_prefix('>')) {
         (Some(count), Some(name)) => Ok(Command::Repeat { text, count, name }),
@@ -115,9 +116,9 @@ fn repeat_command<'a>(text: &'a str, count: &str, name: &'a str) -> Result<Comma
     }
 }
 
-// The changes of lines that the words of a `sed` ask for: `-e` and a script, any number of times, in order.
-// `Kind::Command` where that is not so, or a script has another form, and `Kind::Spelling` where its text is
-// out of form.
+// The changes of lines that the words of a `sed` ask for: `-e` and a script, any number of times, in
+// order. `Kind::Command` where that is not so, or a script has another form, and `Kind::Spelling` where
+// its text is out of form.
 fn edits_of(alloc: Global, words: &[&str]) -> Result<Vec<LineEdit>, PartFault> {
     let mut edits = Vec::new(alloc);
     for pair in words.chunks(2) {

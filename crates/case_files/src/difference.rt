@@ -1,5 +1,5 @@
-//! Whether what came of a command, its output, is what was to come, as the file of cases has it, and how both
-//! differ. All lines are as a file of cases spells them.
+//! Whether what came of a command, its output, is what was to come, as the file of cases has it, and how
+//! both differ. All lines are as a file of cases spells them.
 ghost use Rattle.std.specs.Prelude.{◌≡◌, map};
 ghost use Rattle.case_files.specs.Comparison.{are_same};
 

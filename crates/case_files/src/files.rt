@@ -41,7 +41,8 @@ impl Files {
         self.named = named;
     }
 
-    /// Puts the bytes into the file of this name, in the place of what stood there. The output has no lines.
+    /// Puts the bytes into the file of this name, in the place of what stood there. The output has no
+    /// lines.
     pub(crate) fn write(
         &mut self,
         alloc: Global,
@@ -52,8 +53,8 @@ impl Files {
         Ok(Vec::new(alloc))
     }
 
-    /// The command `cat NAME`: the lines of the file, as they are spelled. The output says so where there is no
-    /// such file.
+    /// The command `cat NAME`: the lines of the file, as they are spelled. The output says so where there
+    /// is no such file.
     pub(crate) fn show(&self, alloc: Global, name: &str) -> Result<Vec<Vec<u8>>, OutOfMemory> {
         match self.bytes(name) {
             Some(bytes) => spelled_lines(alloc, bytes),
@@ -61,8 +62,8 @@ impl Files {
         }
     }
 
-    /// The command `cp OLD NEW`: puts the bytes of the file `old` under the name `new`. The output has no lines,
-    /// or says that there is no file `old`.
+    /// The command `cp OLD NEW`: puts the bytes of the file `old` under the name `new`. The output has no
+    /// lines, or says that there is no file `old`.
     pub(crate) fn copy(
         &mut self,
         alloc: Global,
@@ -100,8 +101,8 @@ impl Files {
         Ok(names)
     }
 
-    /// The command `sed -i -e SCRIPT .. NAME`: changes lines of a file. The output has no lines, or says that
-    /// there is no such file, or which line it doesn't have; then nothing is changed.
+    /// The command `sed -i -e SCRIPT .. NAME`: changes lines of a file. The output has no lines, or says
+    /// that there is no such file, or which line it doesn't have; then nothing is changed.
     pub(crate) fn change(
         &mut self,
         alloc: Global,
@@ -132,7 +133,8 @@ pub(crate) fn equal_lines(alloc: Global, text: &str, count: u64) -> Result<Vec<u
     Ok(bytes)
 }
 
-/// The output of a command that finds no file of this name: `COMMAND: NAME: no such file`, and the status 1.
+/// The output of a command that finds no file of this name: `COMMAND: NAME: no such file`, and the status
+/// 1.
 pub fn no_such_file(alloc: Global, command: &str, name: &str) -> Result<Vec<Vec<u8>>, OutOfMemory> {
     let text = format!(in alloc; "{command}: {name}: no such file")?;
     failure_lines(alloc, text, 1)

@@ -26,9 +26,9 @@ pub struct LineEdit {
 
 impl LineEdit {
     /// The change that a script of `sed` asks for: `Nc\TEXT`, `Nd` or `Na\TEXT`, with a text as
-    /// [`read_escaped`] reads it. They replace a line, leave it out, or put the text behind it. N is from 1,
-    /// and for `a` from 0. `Kind::Command` where the script has another form, and `Kind::Spelling` where its
-    /// text is out of form.
+    /// [`read_escaped`] reads it. They replace a line, leave it out, or put the text behind it. N is from
+    /// 1, and for `a` from 0. `Kind::Command` where the script has another form, and `Kind::Spelling`
+    /// where its text is out of form.
     pub fn read(alloc: Global, script: &str) -> Result<LineEdit, PartFault> {
         let Some((head, text)) = script.split_once('\\') else {
             let Some(line) = script.strip_suffix('d') else {
@@ -61,8 +61,8 @@ impl LineEdit {
     }
 }
 
-// The number of a line that the text writes. `Kind::Command` where it is no number, or is below `least`, the
-// first line that the change may name.
+// The number of a line that the text writes. `Kind::Command` where it is no number, or is below `least`,
+// the first line that the change may name.
 fn line_number(text: &str, least: u64) -> Result<u64, Kind> {
     match number_of(text) {
         Some(number) if number >= least => Ok(number),
@@ -85,8 +85,8 @@ pub fn line_count(bytes: &[u8]) -> u64 {
 }
 
 /// The bytes with all these changes of their lines made. Lines have the numbers that they have before any
-/// change. Of two changes that leave out or take the place of one line, the first holds. Texts behind one line
-/// all stand there, in order. A change of a line that is not there does nothing.
+/// change. Of two changes that leave out or take the place of one line, the first holds. Texts behind one
+/// line all stand there, in order. A change of a line that is not there does nothing.
 pub fn edit_lines(alloc: Global, bytes: &[u8], edits: &[LineEdit]) -> Result<Vec<u8>, OutOfMemory> {
     let mut new = Vec::new(alloc);
     append_texts(&mut new, edits, 0)?;
@@ -104,8 +104,8 @@ pub fn edit_lines(alloc: Global, bytes: &[u8], edits: &[LineEdit]) -> Result<Vec
     Ok(new)
 }
 
-// Appends the texts that the changes put behind the line of this number, each on lines of its own. The number
-// 0 is for those before the first line.
+// Appends the texts that the changes put behind the line of this number, each on lines of its own. The
+// number 0 is for those before the first line.
 fn append_texts(new: &mut Vec<u8>, edits: &[LineEdit], number: u64) -> Result<(), OutOfMemory> {
     for edit in edits {
         if let Change::Append { text } = &edit.change

@@ -94,9 +94,9 @@ fn spell_byte(text: &mut Vec<u8>, byte: u8) -> Result<(), OutOfMemory>
     Ok(())
 }
 
-/// Reads a line as a file of cases spells it, `line`, and appends its bytes to `bytes`, with its line feed where
-/// it has one. The answer says whether it has. `Kind::Spelling` where the spelling has a byte that is not
-/// printable, or an escape that is not in form.
+/// Reads a line as a file of cases spells it, `line`, and appends its bytes to `bytes`, with its line
+/// feed where it has one. The answer says whether it has. `Kind::Spelling` where the spelling has a byte
+/// that is not printable, or an escape that is not in form.
 pub fn read_line(bytes: &mut Vec<u8>, line: &[u8]) -> Result<bool, PartFault> {
     let (line, ended) = match line.strip_suffix(UNENDED) {
         Some(line) => (line, false),

@@ -55,10 +55,10 @@ pub fn steps_of<'a, C: Commands>(
     }
 }
 
-// Reads the line of this number, from 1, into `steps`, and says what the next line may be. `place` says what
-// this one may be. Outside of the lines of a file that a command writes, a line that begins with `  $ ` is a
-// command, another one with two spaces in front is output, and the rest is commentary. The faults are those
-// of reading these.
+// Reads the line of this number, from 1, into `steps`, and says what the next line may be. `place` says
+// what this one may be. Outside of the lines of a file that a command writes, one that begins with `  $ `
+// is a command. Another one with two spaces in front is output, and the rest is commentary. The faults
+// are those of reading these.
 fn take_line<'a, C: Commands>(
     alloc: Global,
     steps: &mut Vec<Step<'a>>,

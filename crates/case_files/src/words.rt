@@ -3,9 +3,9 @@
 use crate::fault::{Kind, PartFault};
 use std::alloc::Global;
 
-/// The words of a command, in order. They are parted by single spaces. One in single quotes keeps its spaces,
-/// and may be empty. `Kind::Words` where a space stands too much, the text is empty, or a quote is open. The
-/// bound of the loop is never reached: each turn takes at least one byte of the text.
+/// The words of a command, in order. They are parted by single spaces. One in single quotes keeps its
+/// spaces, and may be empty. `Kind::Words` where a space stands too much, the text is empty, or a quote
+/// is open. The bound of the loop is never reached: each turn takes at least one byte of the text.
 pub fn words_of(alloc: Global, text: &str) -> Result<Vec<&str>, PartFault> {
     let mut words = Vec::new(alloc);
     let mut rest = text;

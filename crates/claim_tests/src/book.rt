@@ -12,8 +12,8 @@ fn donors(alloc: Global, numbers: &[u32]) -> Result<Vec<u32>, Fail>
     Ok(Vec::from_slice(alloc, numbers)?)
 }
 
-// Two donors, each given at most once, and three rows that rank donor 1 first: the third is given nobody. The
-// row that claims again is told what it had.
+// Two donors, each given at most once, and three rows that rank donor 1 first: the third is given nobody.
+// The row that claims again is told what it had.
 #[test]
 fn a_row_is_given_the_first_donor_with_uses_left(rt: HostRuntime) -> Result<(), Fail> {
     let alloc = rt.alloc();

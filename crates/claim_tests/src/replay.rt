@@ -7,8 +7,8 @@ use foundation::Sequence;
 use std::alloc::Global;
 use std::test::Fail;
 
-// A claim as somebody else may have written it: the row `row_no` ranks donor 1 before donor 0, and was given
-// `reply`, None for nobody. `IsEntryWithin 2 4` says that its numbers are of 2 donors and 4 rows.
+// A claim as somebody else may have written it: the row `row_no` ranks donor 1 before donor 0, and was
+// given `reply`, None for nobody. `IsEntryWithin 2 4` says that its numbers are of 2 donors and 4 rows.
 fn entry(alloc: Global, row_no: u32, reply: Option<u32>) -> Result<Entry, Fail>
     requires { row_no < 4 }
     ensures { IfOk result (IsEntryWithin 2 4) }
@@ -33,8 +33,8 @@ fn entries(alloc: Global, claims: &[(u32, Option<u32>)]) -> Result<Vec<Entry>, F
     Ok(entries)
 }
 
-// The place, from 0, of the first illegal claim of such a history, where there are two donors, each given at
-// most once, and four rows. None where all are legal.
+// The place, from 0, of the first illegal claim of such a history, where there are two donors, each given
+// at most once, and four rows. None where all are legal.
 fn illegal_place(alloc: Global, claims: &[(u32, Option<u32>)]) -> Result<Option<usize>, Fail>
     requires { All (λ claim. claim.0 < 4) claims.now }
 {

@@ -23,8 +23,8 @@ const LIMIT: u32 = 2;
 // How many threads claim.
 const THREADS: u32 = 4;
 
-/// What the threads count together: how many of them have begun, and how many claims were answered by a donor,
-/// and by nobody.
+/// What the threads count together: how many of them have begun, and how many claims were answered by a
+/// donor, and by nobody.
 #[derive(Drop)]
 struct Told {
     begun: AtomicU64,
@@ -65,7 +65,8 @@ fn claim_all(book: &SharedBook, mut pass: Pass, first: u32, told: &Told) -> Pass
     pass
 }
 
-// Waits until all threads have begun, so that they claim side by side; after 10,000 looks it waits no longer.
+// Waits until all threads have begun, so that they claim side by side; after 10,000 looks it waits no
+// longer.
 fn wait_for_all(told: &Told) {
     for _ in 0..10_000 {
         if told.begun.load(Ordering::SeqCst) >= THREADS as u64 {
@@ -75,8 +76,8 @@ fn wait_for_all(told: &Told) {
     }
 }
 
-// The history of a book for which four threads claim, each for all rows. They begin at rows of their own, 2500
-// apart, and count their answers in `told`.
+// The history of a book for which four threads claim, each for all rows. They begin at rows of their own,
+// 2500 apart, and count their answers in `told`.
 fn claims_by_four<R: Threads + Sync>(
     rt: &R,
     alloc: Global,

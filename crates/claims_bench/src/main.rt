@@ -25,8 +25,8 @@ use tally::{Plan, carry_out};
 // The words that are in form.
 const USAGE: &str = "usage: claims_bench [COUNT THREADS]";
 
-// Runs the bench that the words ask for. It prints how many tickets were drawn and donors claimed, or why it
-// tells nothing, and ends with the status of that.
+// Runs the bench that the words ask for. It prints how many tickets were drawn and donors claimed, or why
+// it tells nothing, and ends with the status of that.
 fn main(rt: HostRuntime) -> ExitCode {
     let alloc = rt.alloc();
     let told = text_for_words(&rt, alloc);
@@ -46,8 +46,8 @@ fn text_for_words<R: std::rt::Env + AllocGlobal + Threads + Sync>(
     }
 }
 
-// Carries out the plan, and gives the text to be printed: the counts of what was drawn and claimed. The plan
-// has at most 10^7 tickets, and 1 to 64 threads (`IsServed`). The one fault is refused memory.
+// Carries out the plan, and gives the text to be printed: the counts of what was drawn and claimed. The
+// plan has at most 10^7 tickets, and 1 to 64 threads (`IsServed`). The one fault is refused memory.
 fn text_of<R: Threads + Sync>(rt: &R, alloc: Global, plan: Plan) -> Result<String, Fault>
     requires { IsServed plan }
     ensures text { IfOk result (λ text. IsTold plan (string_bytes text)) }
@@ -57,8 +57,9 @@ fn text_of<R: Threads + Sync>(rt: &R, alloc: Global, plan: Plan) -> Result<Strin
     Ok(counts_text(alloc, tally.drawn, &tally.history)?)
 }
 
-// The counts as a line of text, with its line feed: how many numbers were drawn (`drawn`), how many rows have
-// claimed, and how many of these were given a donor, and how many nobody. `history` has a claim of each row.
+// The counts as a line of text, with its line feed: how many numbers were drawn (`drawn`), how many rows
+// have claimed, and how many of these were given a donor, and how many nobody. `history` has a claim of
+// each row.
 fn counts_text(alloc: Global, drawn: u32, history: &[Won]) -> Result<String, OutOfMemory>
     ensures { IfOk result (λ text. string_bytes text ≡ counts_text drawn history.now) }
 {

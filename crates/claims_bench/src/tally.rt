@@ -33,9 +33,9 @@ pub struct Tally {
     pub history: Vec<Won>,
 }
 
-/// Draws all tickets and claims a donor for the row of each, with the threads of the plan, and tells what was
-/// drawn and claimed. `IsServed` bounds the plan: at most 10^7 tickets, and 1 to 64 threads. `IsTally` says
-/// that all tickets were drawn, and that the claims are a legal history.
+/// Draws all tickets and claims a donor for the row of each, with the threads of the plan, and tells what
+/// was drawn and claimed. `IsServed` bounds the plan: at most 10^7 tickets, and 1 to 64 threads.
+/// `IsTally` says that all tickets were drawn, and that the claims are a legal history.
 pub fn carry_out<R: Threads + Sync>(rt: &R, alloc: Global, plan: Plan) -> Result<Tally, OutOfMemory>
     requires { IsServed plan }
     ensures { IfOk result (IsTally plan) }
@@ -83,7 +83,8 @@ fn run_all<R: Threads + Sync>(
     )?)
 }
 
-// One worker for each thread: each seat with the pass at the same place of the other list, which is as long.
+// One worker for each thread: each seat with the pass at the same place of the other list, which is as
+// long.
 fn workers_of(
     alloc: Global,
     seats: Vec<Seat>,

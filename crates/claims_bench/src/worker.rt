@@ -1,6 +1,7 @@
 //! What one thread does: it draws a row's number, claims a donor for the row, and so on. `Fits` says in
-//! contracts that the book has a row for each ticket, and `donors_for` so many donors. `IsReady` says that a
-//! worker draws from these tickets and claims from this book, and `HasRun` that none was left for it to draw.
+//! contracts that the book has a row for each ticket, and `donors_for` so many donors. `IsReady` says
+//! that a worker draws from these tickets and claims from this book, and `HasRun` that none was left for
+//! it to draw.
 ghost use Rattle.std.specs.Prelude.{◌≡◌, ◌+◌, ◌<◌, ◌≤◌};
 ghost use Rattle.std.specs.List.{All};
 ghost use Rattle.claims_bench.specs.inner.Rankings.{donors_for, ranking_of};
@@ -17,8 +18,8 @@ pub struct Worker {
 }
 
 impl Worker {
-    /// Draws numbers until none is left, and claims a donor for the row of each. The answers of the claims stand
-    /// in the book alone.
+    /// Draws numbers until none is left, and claims a donor for the row of each. The answers of the
+    /// claims stand in the book alone.
     pub fn draw_and_claim(&mut self, tickets: &Tickets, book: &SharedBook)
         requires fits { Fits tickets.now.row book.now }
         requires ready { IsReady tickets.now.row book.now self.old }
@@ -30,8 +31,8 @@ impl Worker {
     }
 }
 
-/// How many donors there are for `rows` rows: 3 more. The last row may be the first of its group of four, and
-/// ranks 3 donors past its own number then.
+/// How many donors there are for `rows` rows: 3 more. The last row may be the first of its group of four,
+/// and ranks 3 donors past its own number then.
 pub fn donors_for(rows: u32) -> u32
     requires { rows < 4000000000 }
     ensures { result ≡ donors_for rows }
@@ -39,8 +40,8 @@ pub fn donors_for(rows: u32) -> u32
     rows + 3
 }
 
-// The 4 donors that a row ranks: those with the numbers of the 4 rows of its group, so 4 to 7 for the rows 4
-// to 7. So each row is given one, in whatever order the rows claim.
+// The 4 donors that a row ranks: those with the numbers of the 4 rows of its group, so 4 to 7 for the
+// rows 4 to 7. So each row is given one, in whatever order the rows claim.
 fn ranking_of(row_no: u32) -> [u32; 4]
     requires { row_no < 4000000000 }
     ensures ranking { result ≡ ranking_of row_no }

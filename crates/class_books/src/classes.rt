@@ -46,8 +46,8 @@ impl Model for Classes {
 
 impl Classes {
     /// The tables of `classes` classes. `class_of` has the class of each row of the file, which is below
-    /// `classes`. A donor is given at most `limit` times, and there are `passes` passes. A class may have no
-    /// rows.
+    /// `classes`. A donor is given at most `limit` times, and there are `passes` passes. A class may have
+    /// no rows.
     pub fn of(
         alloc: Global,
         class_of: Vec<u32>,
@@ -110,8 +110,8 @@ impl Classes {
         self.numbers[row_no as usize]
     }
 
-    /// The numbers that at most 64 rows of one class have in the class's book, in order, and 0 behind them: a
-    /// ranking in the numbers of the class. No memory.
+    /// The numbers that at most 64 rows of one class have in the class's book, in order, and 0 behind
+    /// them: a ranking in the numbers of the class. No memory.
     pub fn numbers_of(&self, rows: &[u32]) -> [u32; MOST_DONORS]
         requires few { length rows.now ≤ MOST_DONORS }
         requires rows { All (λ row. row < length self.now.class_of) rows.now }

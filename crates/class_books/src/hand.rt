@@ -52,7 +52,8 @@ impl Hand {
         book.claim(&mut self.pass, row_no, ranking)
     }
 
-    /// The pass, and the room, in which no pass stands yet: with both the class's book is closed. No memory.
+    /// The pass, and the room, in which no pass stands yet: with both the class's book is closed. No
+    /// memory.
     pub fn into_parts(self) -> (Pass, Vec<Pass>)
         ensures pass { result.0 ≡ self }
         ensures ranks { RanksOwn self }

@@ -35,7 +35,8 @@ impl Model for ClassPass {
 }
 
 impl ClassPass {
-    /// A pass of the classes that has no pass of a book yet; `add` takes these in, class by class. No memory.
+    /// A pass of the classes that has no pass of a book yet; `add` takes these in, class by class. No
+    /// memory.
     pub fn of(alloc: Global, classes: Arc<Classes>) -> ClassPass
         ensures { result ≡ class_pass_of (arc_value classes) [] }
     {

@@ -169,8 +169,8 @@ fn passes_of(
     Ok(all)
 }
 
-// Gives each of `all`, the passes of the classes, one of `passes`, the passes of the next class's book. There
-// are as many of both. Which one gets which is all the same: no pass has claimed.
+// Gives each of `all`, the passes of the classes, one of `passes`, the passes of the next class's book.
+// There are as many of both. Which one gets which is all the same: no pass has claimed.
 fn deal(alloc: Global, all: &mut Vec<ClassPass>, passes: Vec<Pass>) -> Result<(), OutOfMemory>
     requires as_many { length passes.items ≡ length all.old.items }
     requires next { All (λ class_pass. All (IsNext class_pass) passes.items) all.old.items }

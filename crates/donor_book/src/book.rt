@@ -1,8 +1,8 @@
 //! The book of claims for one thread: who gives values to whom, so that no donor gives more often than a
 //! limit allows. In contracts, `answer_to` has what a claim is answered after a history, and
 //! `history_after` the history with the claim. `wins_of` has the history without its rankings, and
-//! `uses_of` how often it gave a donor. `GetsNobody` says that a row has not claimed, and that each donor of
-//! its ranking has no use left. A donor has uses left where it was given fewer times than the limit.
+//! `uses_of` how often it gave a donor. `GetsNobody` says that a row has not claimed, and that each donor
+//! of its ranking has no use left. A donor has uses left where it was given fewer times than the limit.
 ghost use Rattle.std.specs.Prelude.{◌≡◌, ℕ, ◌<◌, ◌≤◌, ◌↔◌, ◌++◌, [], ◌∷◌, None, All, IfOk, option_map};
 ghost use Rattle.donor_book.specs.Claims.{GetsNobody, IsDonor, answer_to, claim_of, first_free, uses_of};
 ghost use Rattle.donor_book.specs.Entries.{IsLegalHistory, history_after, wins_of, with_history};
@@ -118,7 +118,8 @@ impl Book {
     }
 
     // Puts the entry of a row that has not claimed at the end of the history, counts its donor, and notes
-    // its reply. The reply is the first donor of its ranking with uses left. The room was taken at the start.
+    // its reply. The reply is the first donor of its ranking with uses left. The room was taken at the
+    // start.
     fn enter(&mut self, entry: Entry)
         requires row { entry.row_no < self.old.rows }
         requires donor { IsDonor self.old.donors entry.reply }

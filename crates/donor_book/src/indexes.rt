@@ -22,8 +22,8 @@ pub fn first_below(uses: &[u32], limit: u32, ranking: &[u32]) -> Option<u32>
         .find(|donor| uses[*donor as usize] < limit)
 }
 
-// Notes a claim in both tables: it counts the donor, if one was given, and keeps what the row was given. The
-// row has not claimed before. Each count can grow by one within 32 bits.
+// Notes a claim in both tables: it counts the donor, if one was given, and keeps what the row was given.
+// The row has not claimed before. Each count can grow by one within 32 bits.
 pub fn note_claim(uses: &mut Vec<u32>, replies: &mut Vec<Option<Option<u32>>>, won: Won)
     requires row { won.row_no < length replies.old.items }
     requires donor { IsDonor (length uses.old.items) won.reply }

@@ -12,10 +12,10 @@ use crate::indexes::{first_below, no_replies, note_claim};
 use foundation::OutOfMemory;
 use std::alloc::Global;
 
-/// The place, from 0, of the first entry with which the claims are no legal history any more; None where all
-/// are legal. Such an entry has not the reply that the entries before it leave to its ranking, or its row has
-/// claimed before. Donors and rows are named by the numbers below `donors` and `rows`. All memory is taken
-/// before the first entry is read.
+/// The place, from 0, of the first entry with which the claims are no legal history any more; None where
+/// all are legal. Such an entry has not the reply that the entries before it leave to its ranking, or its
+/// row has claimed before. Donors and rows are named by the numbers below `donors` and `rows`. All memory
+/// is taken before the first entry is read.
 pub fn first_illegal(
     alloc: Global,
     claims: &[Entry],
@@ -43,8 +43,8 @@ pub fn first_illegal(
 }
 
 // Whether the entry may stand behind a history: its row has not claimed there, and its reply is the first
-// donor of its ranking with uses left, or nobody where none has. `uses` and `replies` are the tables of that
-// history, as `indexes` has them.
+// donor of its ranking with uses left, or nobody where none has. `uses` and `replies` are the tables of
+// that history, as `indexes` has them.
 fn is_next(uses: &[u32], replies: &[Option<Option<u32>>], limit: u32, entry: &Entry) -> bool
     requires { IsEntryWithin (length uses.now) (length replies.now) entry.now }
     ensures { (history : List Claimed) → IsReplay history uses.now replies.now → Decides result (IsNext limit history entry.now) }

@@ -61,9 +61,9 @@ pub fn read_claim(found: u64, claim: Won) -> Won
     }
 }
 
-// The history that the words of a closed table tell, up to the first word 0. It is read into `history`, which
-// is empty and has room for a claim of each row, so that no memory is taken. In the contract, `AreWordsOf`
-// says that words are those of a history.
+// The history that the words of a closed table tell, up to the first word 0. It is read into `history`,
+// which is empty and has room for a claim of each row, so that no memory is taken. In the contract,
+// `AreWordsOf` says that words are those of a history.
 pub fn read_history(closed: &Closed<(), Global>, terms: Terms, mut history: Vec<Won>) -> Vec<Won>
     requires full { IsFull closed.now.words × (slots_len closed.now.words ≡ terms.rows + 1) }
     requires small { (terms.rows + 1 < 2 ^ 32) × (terms.donors + 1 < 2 ^ 32) }

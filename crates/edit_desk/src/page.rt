@@ -42,8 +42,8 @@ impl Model for MemoryPrinter {
 }
 
 impl MemoryPrinter {
-    /// A printer with nothing printed and room for 1 MiB, whose line of the number `fail_at`, counted from 1,
-    /// is to fail.
+    /// A printer with nothing printed and room for 1 MiB, whose line of the number `fail_at`, counted
+    /// from 1, is to fail.
     pub fn new(alloc: Global, fail_at: Option<u64>) -> Result<MemoryPrinter, OutOfMemory>
         ensures { IfOk result (λ printer. printer ≡ record { text = []; lines = 0; fail_at = fail_at; room = printer_room; faults = 0 }) }
     {

@@ -1,6 +1,6 @@
 //! Texts that stand in a page as they are read, whatever their bytes are. Bytes with a meaning in markup
-//! are escaped, and those that can't be shown are replaced. In contracts, `escaped` is what is written for a
-//! text, and `escaped_byte` what is written for one of its bytes.
+//! are escaped, and those that can't be shown are replaced. In contracts, `escaped` is what is written
+//! for a text, and `escaped_byte` what is written for one of its bytes.
 ghost use Rattle.std.specs.Prelude.{◌≡◌, [], ◌∷◌, ◌++◌, OnOk, if◌then◌else◌};
 ghost use Rattle.std.specs.Str.{is_utf8};
 ghost use Rattle.page_markup.specs.Escapes.{escaped, escaped_byte, is_lost};
@@ -10,9 +10,9 @@ use foundation::OutOfMemory;
 /// U+FFFD, the character that stands for what can't be shown.
 const REPLACEMENT: &[u8] = &[0xEF, 0xBF, 0xBD];
 
-/// Appends a text as it is written in a page. The bytes `&`, `<`, `>`, `"` and `'` are written as entities,
-/// such as `&amp;`. U+FFFD stands for each byte past ASCII of a text that is not UTF-8, and for each control
-/// character but tab and line feed. Refused memory may leave a part of it appended.
+/// Appends a text as it is written in a page. The bytes `&`, `<`, `>`, `"` and `'` are written as
+/// entities, such as `&amp;`. U+FFFD stands for each byte past ASCII of a text that is not UTF-8, and for
+/// each control character but tab and line feed. Refused memory may leave a part of it appended.
 #[tactic(auto, unfolding(crate::specs::Escapes::escaped))]
 pub(crate) fn push_escaped(text: &mut Vec<u8>, words: &[u8]) -> Result<(), OutOfMemory>
     ensures { OnOk result (text.new.items ≡ text.old.items ++ escaped words.now) }

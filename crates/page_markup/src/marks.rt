@@ -1,7 +1,7 @@
-//! What is written of an element: its start, its attributes and its end. Each call appends to `text`; where
-//! memory is refused, a part of it may be appended. In contracts, `given` has the attributes of a call, each
-//! with the bytes of its value (`value_words`). `start_text`, `end_text`, `void_text` and `attribute_text`
-//! are what is written.
+//! What is written of an element: its start, its attributes and its end. Each call appends to `text`;
+//! where memory is refused, a part of it may be appended. In contracts, `given` has the attributes of a
+//! call, each with the bytes of its value (`value_words`). `start_text`, `end_text`, `void_text` and
+//! `attribute_text` are what is written.
 ghost use Rattle.std.specs.Prelude.{◌≡◌, ◌++◌, OnOk};
 ghost use Rattle.std.specs.List.{flat_map};
 ghost use Rattle.page_markup.specs.Escapes.{escaped};
@@ -82,8 +82,8 @@ fn push_attributes(text: &mut Vec<u8>, attributes: &[(Attribute, Value)]) -> Res
     Ok(())
 }
 
-// Appends the value of an attribute as it stands between its quotation marks: words escaped, and a number in
-// decimal digits.
+// Appends the value of an attribute as it stands between its quotation marks: words escaped, and a number
+// in decimal digits.
 fn push_value(text: &mut Vec<u8>, value: Value) -> Result<(), OutOfMemory>
     ensures { OnOk result (text.new.items ≡ text.old.items ++ escaped (value_words value.entry)) }
 {

@@ -47,8 +47,8 @@ impl Model for PageWriter {
 }
 
 impl PageWriter {
-    /// A page in a language, as `en`, that holds nothing yet: what stands before all elements is written, and
-    /// none is open.
+    /// A page in a language, as `en`, that holds nothing yet: what stands before all elements is written,
+    /// and none is open.
     #[tactic(auto, unfolding(crate::specs::Trees::page_start))]
     pub fn new(alloc: Global, language: &[u8]) -> Result<PageWriter, OutOfMemory>
         ensures begun { IfOk result (λ page. page ≡ begun language.now) }
@@ -64,8 +64,8 @@ impl PageWriter {
         })
     }
 
-    /// Opens an element in the innermost one that is open, or in the page itself where none is. An attribute
-    /// that is given twice is written twice, which no browser reads as meant: give each once.
+    /// Opens an element in the innermost one that is open, or in the page itself where none is. An
+    /// attribute that is given twice is written twice, which no browser reads as meant: give each once.
     pub fn open(&mut self, tag: Tag, attributes: &[(Attribute, Value)]) -> Result<(), OutOfMemory>
         ensures written { OnOk result (self.new ≡ opened tag (given attributes.now) self.old) }
         ensures tree { OnOk result (Follows (with_child tag (given attributes.now)) self.old self.new) }
@@ -100,8 +100,8 @@ impl PageWriter {
         Ok(())
     }
 
-    /// Writes a whole element of a kind that never holds anything, such as a line of a drawing. An attribute
-    /// that is given twice is written twice, which no browser reads as meant: give each once.
+    /// Writes a whole element of a kind that never holds anything, such as a line of a drawing. An
+    /// attribute that is given twice is written twice, which no browser reads as meant: give each once.
     pub fn empty(
         &mut self,
         tag: VoidTag,
@@ -117,9 +117,9 @@ impl PageWriter {
         Ok(())
     }
 
-    /// Writes words into the innermost open element, whatever their bytes are. None of them can open or end
-    /// an element (`inert`). Words of which no byte is replaced can be told from the page (`told`): no other
-    /// such words are written alike.
+    /// Writes words into the innermost open element, whatever their bytes are. None of them can open or
+    /// end an element (`inert`). Words of which no byte is replaced can be told from the page (`told`):
+    /// no other such words are written alike.
     pub fn text(&mut self, words: &[u8]) -> Result<(), OutOfMemory>
         ensures written { OnOk result (self.new ≡ added (Words words.now Nothing) self.old) }
         ensures tree { OnOk result (Follows (with_more (Words words.now Nothing)) self.old self.new) }
@@ -142,8 +142,8 @@ impl PageWriter {
         self.text(Buffer::new().format(number).as_bytes())
     }
 
-    /// Writes the style sheet [`crate::STYLE`] into the innermost open element. It is meant for the head, but
-    /// no call looks at where it stands.
+    /// Writes the style sheet [`crate::STYLE`] into the innermost open element. It is meant for the head,
+    /// but no call looks at where it stands.
     pub fn style(&mut self) -> Result<(), OutOfMemory>
         ensures written { OnOk result (self.new ≡ added (Style Nothing) self.old) }
         ensures tree { OnOk result (Follows (with_more (Style Nothing)) self.old self.new) }

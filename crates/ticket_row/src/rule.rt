@@ -6,7 +6,8 @@ use std::collections::LinkedList;
 
 /// What a seat knows: how many tickets there are (`count`), and for how many `seats` it stands. Also the
 /// numbers that it drew, and how often it met the end (`ends`), which is a draw past the last ticket.
-/// Contracts alone speak of it: no value of it is made. A seat stands for several until these are split off.
+/// Contracts alone speak of it: no value of it is made. A seat stands for several until these are split
+/// off.
 pub struct Hand {
     pub count: u64,
     pub seats: u64,
@@ -21,7 +22,8 @@ pub struct Terms {
     pub seats: u32,
 }
 
-/// The rule of a row: its one word is the number of draws, and each number that was drawn is in one hand, once.
+/// The rule of a row: its one word is the number of draws, and each number that was drawn is in one hand,
+/// once.
 pub struct TicketRule;
 
 impl TableRule<(), Hand, Terms> for TicketRule {

@@ -20,8 +20,8 @@ fn one_ticket_and_two_seats(rt: HostRuntime) -> Result<(), Fail> {
     Ok(())
 }
 
-// Draws from this seat until none of the row's three tickets is left. The answer has the seat, and how often
-// it drew each of the numbers 0, 1 and 2.
+// Draws from this seat until none of the row's three tickets is left. The answer has the seat, and how
+// often it drew each of the numbers 0, 1 and 2.
 fn draw_all(tickets: &Tickets, mut seat: Seat) -> (Seat, [u8; 3])
     requires row { seat.row ≡ tickets.now.row }
     requires three { tickets.now.row.count ≡ 3 }

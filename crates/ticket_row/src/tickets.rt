@@ -15,7 +15,8 @@ use foundation::OutOfMemory;
 use std::alloc::Global;
 use std::marker::Model;
 
-/// A row of tickets, which are numbered from 0. Threads share it, and each draws from a [`Seat`] of its own.
+/// A row of tickets, which are numbered from 0. Threads share it, and each draws from a [`Seat`] of its
+/// own.
 #[derive(Drop)]
 pub struct Tickets {
     table: Table<(), Hand, Terms, TicketRule, Global>,
@@ -94,9 +95,9 @@ impl Tickets {
         Ok((Tickets { table, count }, row))
     }
 
-    /// Draws the next number for `seat`, which is one of this row, or None where no number is left. It is one
-    /// atomic step. A seat that was answered None before is answered None again, without a step. No memory,
-    /// no waiting.
+    /// Draws the next number for `seat`, which is one of this row, or None where no number is left. It is
+    /// one atomic step. A seat that was answered None before is answered None again, without a step. No
+    /// memory, no waiting.
     pub fn draw(&self, seat: &mut Seat) -> Option<u32>
         requires { seat.old.row ≡ self.now.row }
         ensures row { seat.new.row ≡ seat.old.row }

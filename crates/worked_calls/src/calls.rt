@@ -71,9 +71,9 @@ fn is_call(word: &str) -> bool {
     )
 }
 
-// The lines that the call of these words answers. The first word is its name, and the next ones are the files
-// or the record that it is made on. `CallFault::Words` where its name stands alone, or it takes other words;
-// else the faults are those of the call.
+// The lines that the call of these words answers. The first word is its name, and the next ones are the
+// files or the record that it is made on. `CallFault::Words` where its name stands alone, or it takes
+// other words; else the faults are those of the call.
 fn call_told(alloc: Global, files: &Files, words: &[&str]) -> Result<Texts, CallFault> {
     match words {
         [name @ ("rank" | "measured"), rules, records, others @ ..] => {
@@ -89,8 +89,8 @@ fn call_told(alloc: Global, files: &Files, words: &[&str]) -> Result<Texts, Call
     }
 }
 
-// Whether the call of this name takes a rule file and no record. All others but `rank` and `measured`, which
-// take a record file, take a rule file and one record.
+// Whether the call of this name takes a rule file and no record. All others but `rank` and `measured`,
+// which take a record file, take a rule file and one record.
 fn is_of_rules(name: &str) -> bool {
     matches!(
         name,
@@ -98,8 +98,9 @@ fn is_of_rules(name: &str) -> bool {
     )
 }
 
-// The lines that the call `name` answers on the rule file of the name `rules`; `others` are the words behind
-// these two. `CallFault::Words` where the call takes others; else the faults are those of the call.
+// The lines that the call `name` answers on the rule file of the name `rules`; `others` are the words
+// behind these two. `CallFault::Words` where the call takes others; else the faults are those of the
+// call.
 fn rules_told(
     alloc: Global,
     files: &Files,
@@ -119,9 +120,9 @@ fn rules_told(
     }
 }
 
-// The lines that the call `name` answers on the rule file of the name `rules` and one record, which the word
-// `record` spells. `others` are the words behind these three. `CallFault::Words` where there is no such call,
-// or it takes others; else the faults are those of the call.
+// The lines that the call `name` answers on the rule file of the name `rules` and one record, which the
+// word `record` spells. `others` are the words behind these three. `CallFault::Words` where there is no
+// such call, or it takes others; else the faults are those of the call.
 fn record_told(
     alloc: Global,
     files: &Files,
@@ -171,9 +172,9 @@ fn donors_told(
     }
 }
 
-// What the words of `rank` or `measured` ask for. `path` has letters, `row` is the number of a record, from 1
-// (from 0 in the answer), and `near` is how many donors are ranked at most. `class` has the name of a class
-// field, or nothing. `CallFault::Words` where it has more words or a word is no number, and
+// What the words of `rank` or `measured` ask for. `path` has letters, `row` is the number of a record,
+// from 1 (from 0 in the answer), and `near` is how many donors are ranked at most. `class` has the name
+// of a class field, or nothing. `CallFault::Words` where it has more words or a word is no number, and
 // `CallFault::Number` for the record 0.
 fn asked_by<'a>(
     path: &'a str,

@@ -50,9 +50,9 @@ struct Found {
     measured: u64,
 }
 
-/// The answer of the call `rank`: one line with `donors` and the numbers, from 1, that the nearest donors have
-/// in the record file, the nearest first. `records` has the bytes of that file. The faults are those of
-/// `found_in`.
+/// The answer of the call `rank`: one line with `donors` and the numbers, from 1, that the nearest donors
+/// have in the record file, the nearest first. `records` has the bytes of that file. The faults are those
+/// of `found_in`.
 pub fn rank_told(
     alloc: Global,
     survey: &Survey,
@@ -68,9 +68,9 @@ pub fn rank_told(
     only_line(alloc, text.into_bytes())
 }
 
-/// The answer of the call `measured`: how often two values were measured to find the nearest donors, in one
-/// line. It is `at most MOST` where that was at most `most` times, and else the number. The faults are those
-/// of `found_in`.
+/// The answer of the call `measured`: how often two values were measured to find the nearest donors, in
+/// one line. It is `at most MOST` where that was at most `most` times, and else the number. The faults
+/// are those of `found_in`.
 pub fn measured_told(
     alloc: Global,
     survey: &Survey,
@@ -109,8 +109,8 @@ fn found_in(
     nearest_donors::<Brand>(alloc, survey, &sheet, &path, row_no, among, Blank::new(1))
 }
 
-// The number, from 0, of the field of the survey that is named as the class field; None where none is named.
-// `CallFault::Field` where the survey has no field of the name.
+// The number, from 0, of the field of the survey that is named as the class field; None where none is
+// named. `CallFault::Field` where the survey has no field of the name.
 fn class_field_of(survey: &Survey, name: Option<&str>) -> Result<Option<u32>, CallFault> {
     let Some(name) = name else {
         return Ok(None);

@@ -1,6 +1,6 @@
-//! What the words of a command line ask for, as one line: worked cases show it, so that the reading of words
-//! is tested without a run. Each helper but two looks for one command. It answers an empty text where the
-//! words are not this command's, so that only one of them tells something.
+//! What the words of a command line ask for, as one line: worked cases show it, so that the reading of
+//! words is tested without a run. Each helper but two looks for one command. It answers an empty text
+//! where the words are not this command's, so that only one of them tells something.
 
 use command_words::{
     EditWords, check_asked, classed_asked, edit_asked, fill_asked, make_asked, page_asked,
@@ -9,9 +9,9 @@ use command_words::{
 use foundation::OutOfMemory;
 use std::alloc::Global;
 
-/// The line that tells what the words of a command line ask for, with its line feed. It has the command, its
-/// files and names in the order of its options, and then its numbers. It is `nothing` where the words ask
-/// for no command. Where they asked for two, both would be told.
+/// The line that tells what the words of a command line ask for, with its line feed. It has the command,
+/// its files and names in the order of its options, and then its numbers. It is `nothing` where the words
+/// ask for no command. Where they asked for two, both would be told.
 pub fn asked_line(alloc: Global, words: &[String]) -> Result<Vec<u8>, OutOfMemory> {
     let mut line = Vec::new(alloc);
     for told in [
@@ -83,7 +83,8 @@ fn check_told(alloc: Global, words: &[String]) -> Result<String, OutOfMemory> {
     Ok(format!(in alloc; "check {rules} {records} {released} {proof}")?)
 }
 
-// The command `rules`, as the words ask for it, with its file. The text is empty where they don't ask for it.
+// The command `rules`, as the words ask for it, with its file. The text is empty where they don't ask for
+// it.
 fn rules_told(alloc: Global, words: &[String]) -> Result<String, OutOfMemory> {
     let Some(asked) = rules_asked(alloc, words)? else {
         return Ok(String::new(alloc));
@@ -117,8 +118,8 @@ fn panel_told(alloc: Global, words: &[String]) -> Result<String, OutOfMemory> {
     )?)
 }
 
-// The command `make`, which makes a survey, as the words ask for it, with its two files, the number that its
-// random numbers start from, and how many rows. The text is empty where they don't ask for it.
+// The command `make`, which makes a survey, as the words ask for it, with its two files, the number `start`
+// that its records follow from, and how many rows. The text is empty where they don't ask for it.
 fn make_told(alloc: Global, words: &[String]) -> Result<String, OutOfMemory> {
     let Some(asked) = make_asked(alloc, words)? else {
         return Ok(String::new(alloc));

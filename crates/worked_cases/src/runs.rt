@@ -40,8 +40,8 @@ impl Commands for Runs {
         Some(Own::of(words)?.role())
     }
 
-    // Does the command of these words, and gives the lines of its output. The case of no command can't come,
-    // since the file was read by `role_of`; it has no output.
+    // Does the command of these words, and gives the lines of its output. The case of no command can't
+    // come, since the file was read by `role_of`; it has no output.
     fn perform<R: Threads + Wait + Sync>(
         &mut self,
         rt: &R,
@@ -67,9 +67,10 @@ impl Commands for Runs {
 }
 
 impl Runs {
-    // Runs the program with these words, over the files, as `forxainde WORD ..` asks: that of pages where the
-    // first word is `page`. The output is what it prints and, where it is not 0, its status in brackets. The
-    // failures that were asked for are used up by it, and the calls of its desk are kept for `calls`.
+    // Runs the program with these words, over the files, as `forxainde WORD ..` asks: that of pages where
+    // the first word is `page`. The output is what it prints and, where it is not 0, its status in
+    // brackets. The failures that were asked for are used up by it, and the calls of its desk are kept
+    // for `calls`.
     fn run_command_line<R: Threads + Wait + Sync>(
         &mut self,
         rt: &R,
@@ -98,7 +99,8 @@ impl Runs {
     }
 }
 
-// The output of the command `words`: the line that tells what its words ask for, as a file of cases spells it.
+// The output of the command `words`: the line that tells what its words ask for, as a file of cases
+// spells it.
 fn words_told(alloc: Global, words: &[&str]) -> Result<Vec<Vec<u8>>, OutOfMemory> {
     let line = asked_line(alloc, &copy_words(alloc, words)?)?;
     spelled_lines(alloc, &line)
