@@ -73,7 +73,7 @@ impl Progress {
     /// Notes one command more: `begins_case` says whether a case begins with it, and `is_right` whether
     /// its output was that which was to come. A case fails once, however many of its outputs are wrong. A
     /// failure before the first case is that case's, so beginning the first case does not end it.
-    pub fn note(&mut self, begins_case: bool, is_right: bool)
+    pub fn note_command(&mut self, begins_case: bool, is_right: bool)
         ensures right { IsTrue is_right → self.new.failed ≡ self.old.failed }
         ensures wrong { IsFalse is_right → 0 < self.new.failed }
         ensures later { self.old.failed ≤ self.new.failed }

@@ -103,7 +103,7 @@ fn run_steps<C: Commands, R: Threads + Wait + Sync, P: Printer>(
         if !is_right {
             show_difference(alloc, name, step, &came, printer)?;
         }
-        progress.note(step.command.begins_case(), is_right);
+        progress.note_command(step.command.begins_case(), is_right);
     }
     if let Some(cases) = progress.cases_if_right() {
         print_line(printer, &format!(in alloc; "{name}: {cases} cases")?)?;
