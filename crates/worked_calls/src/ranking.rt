@@ -52,14 +52,14 @@ struct Found {
 
 /// The answer of the call `rank`: one line with `donors` and the numbers, from 1, that the nearest donors
 /// have in the record file, the nearest first. `records` has the bytes of that file. The faults are those
-/// of `found_in`.
+/// of `find_donors`.
 pub fn rank_told(
     alloc: Global,
     survey: &Survey,
     records: &[u8],
     asked: Asked,
 ) -> Result<Texts, CallFault> {
-    let found = found_in(alloc, survey, records, asked)?;
+    let found = find_donors(alloc, survey, records, asked)?;
     let mut text = String::from_str(alloc, "donors")?;
     for donor in &found.donors {
         let number = from_one(u64::from(*donor));
@@ -70,7 +70,7 @@ pub fn rank_told(
 
 /// The answer of the call `measured`: how often two values were measured to find the nearest donors, in
 /// one line. It is `at most MOST` where that was at most `most` times, and else the number. The faults
-/// are those of `found_in`.
+/// are those of `find_donors`.
 pub fn measured_told(
     alloc: Global,
     survey: &Survey,
@@ -78,7 +78,7 @@ pub fn measured_told(
     asked: Asked,
     most: u64,
 ) -> Result<Texts, CallFault> {
-    let measured = found_in(alloc, survey, records, asked)?.measured;
+    let measured = find_donors(alloc, survey, records, asked)?.measured;
     let text = if measured <= most {
         format!(in alloc; "at most {most}")?
     } else {
@@ -91,7 +91,7 @@ pub fn measured_told(
 // `CallFault::Path` and `Field` where the path or the class field is none, and `Number` where a number
 // has more than 32 bits. `Record` where the file has no reading; else the faults are those of
 // `nearest_donors`.
-fn found_in(
+fn find_donors(
     alloc: Global,
     survey: &Survey,
     records: &[u8],
