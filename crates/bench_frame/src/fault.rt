@@ -26,8 +26,8 @@ pub enum Fault {
 }
 
 impl Fault {
-    /// The exit status of a bench that ends with this fault: from 2 to 7, where 0 is that of success, and
-    /// 6 that of a printer that failed.
+    /// The exit status of a bench that ends with this fault, from 2 to 7. Success is 0, and a printer
+    /// that failed is 6.
     pub fn status(self) -> u8
         ensures { result ≡ status_of self }
     {

@@ -1,6 +1,6 @@
-//! Files in memory, and the commands that make, show and change them. Each command answers the lines of its
-//! output, as a file of cases spells them; one that fails says so in these, and `Err` is for want of memory
-//! alone.
+//! Files in memory, and the commands that make, show and change them. Each command answers the lines of
+//! its output, as a file of cases spells them. One that fails says so in these; `Err` is for want of
+//! memory alone.
 
 use crate::line_edits::{LineEdit, edit_lines, line_count};
 use crate::spelling::spelled_lines;

@@ -13,8 +13,8 @@ use std::thread::Threads;
 
 /// Runs the files of cases that the program's words name, and prints what came of each and how many cases
 /// passed and failed. `C` has the commands of the program's own. The exit status is 0 where there were
-/// cases and all passed, and else 1, also where memory was refused, a word is no text or a line was not
-/// printed.
+/// cases and all passed, and else 1. It is 1 also where memory was refused, a word is no text or a line
+/// was not printed.
 pub fn run_program<
     C: Commands,
     R: Threads + Wait + Sync + Env + Files + Print + AllocGlobal + Clone + Drop,

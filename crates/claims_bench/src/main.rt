@@ -57,9 +57,9 @@ fn text_of<R: Threads + Sync>(rt: &R, alloc: Global, plan: Plan) -> Result<Strin
     Ok(counts_text(alloc, tally.drawn, &tally.history)?)
 }
 
-// The counts as a line of text, with its line feed: how many numbers were drawn (`drawn`), how many rows
-// have claimed, and how many of these were given a donor, and how many nobody. `history` has a claim of
-// each row.
+// The counts as a line of text, with its line feed. They are how many numbers were drawn, how many rows
+// have claimed, how many of these were given a donor, and how many nobody. `history` has a claim of each
+// row.
 fn counts_text(alloc: Global, drawn: u32, history: &[Won]) -> Result<String, OutOfMemory>
     ensures { IfOk result (λ text. string_bytes text ≡ counts_text drawn history.now) }
 {

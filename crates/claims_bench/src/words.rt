@@ -17,7 +17,7 @@ const MOST_COUNT: u32 = 10_000_000;
 const MOST_THREADS: u32 = 64;
 
 /// The plan that the words `COUNT THREADS` ask for, and `SMALL` where there are no words. None where
-/// there is one word, or more than two, where a word is no number, or a number is 0 or too great: above
+/// there is one word, or more than two, or a word is no number. None also for 0, and for a number above
 /// `MOST_COUNT` or `MOST_THREADS`.
 pub fn plan_of(words: &[String]) -> Option<Plan>
     ensures asked { IfSome result (IsAsked (map string_bytes words.now)) }

@@ -40,7 +40,7 @@ pub fn donors_for(rows: u32) -> u32
     rows + 3
 }
 
-// The 4 donors that a row ranks: those with the numbers of the 4 rows of its group, so 4 to 7 for the
+// The 4 donors that a row ranks. They have the numbers of the 4 rows of its group, such as 4 to 7 for the
 // rows 4 to 7. So each row is given one, in whatever order the rows claim.
 fn ranking_of(row_no: u32) -> [u32; 4]
     requires { row_no < 4000000000 }

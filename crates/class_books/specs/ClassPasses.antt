@@ -41,13 +41,14 @@ abbrev pub book_terms : ClassTerms → Terms
 book_terms terms =
     record { limit = terms.limit; donors = length terms.class_of; rows = length terms.class_of; passes = terms.passes }
 
--- no book, and no claims: what there is of a class past the last one
+-- no book: what there is of a class past the last one
 abbrev pub no_book : BookName
 no_book = record {
   table = record { words = 0; slots = 0; views_name = 0; atom = 0; block = 0; offset = 0; slot_names = [] };
   terms = record { limit = 0; donors = 0; rows = 0; passes = 0 };
 }
 
+-- no claims, seen or made
 abbrev pub no_claims : ClassState
 no_claims = record { seen = []; mine = [] }
 

@@ -111,7 +111,7 @@ impl Classes {
     }
 
     /// The numbers that at most 64 rows of one class have in the class's book, in order, and 0 behind
-    /// them: a ranking in the numbers of the class. No memory.
+    /// them. So a ranking is turned into numbers of the class. No memory.
     pub fn numbers_of(&self, rows: &[u32]) -> [u32; MOST_DONORS]
         requires few { length rows.now ≤ MOST_DONORS }
         requires rows { All (λ row. row < length self.now.class_of) rows.now }

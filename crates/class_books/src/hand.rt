@@ -1,5 +1,5 @@
-//! What a class pass has of one class, which is called its hand: a pass of the class's book, and the room
-//! that closing the book needs.
+//! What a class pass has of one class, which is called its hand. It is a pass of the class's book, and
+//! the room that closing the book needs.
 ghost use Rattle.std.specs.Prelude.{◌≡◌, ◌<◌, ◌≤◌, [], IfOk};
 ghost use Rattle.std.specs.List.{All};
 ghost use Rattle.donor_book.specs.Passes.{ArePlaced, IsAnswered};

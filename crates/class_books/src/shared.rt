@@ -3,9 +3,9 @@
 //!
 //! In contracts, `pass_in` has what a pass has of one class, as a pass of that class's book. `EachClass`
 //! says something of each class, and `IsFreshPass` that a pass has seen and claimed nothing in any.
-//! `IsAnswered`, `IsWhole` and `IsSound` are those of `donor_book`. `fresh_pass`, `with_class` and
-//! `first_classes` are a pass that has claimed nothing, one with a class more, and one of the first classes
-//! alone; `last_class` is the number of its last class, from 0.
+//! `IsAnswered`, `IsWhole` and `IsSound` are those of `donor_book`. `fresh_pass` is a pass that has
+//! claimed nothing, `with_class` one with a class more, and `first_classes` one of the first classes
+//! alone. `last_class` is the number of a pass's last class, from 0.
 ghost use Rattle.std.specs.Prelude.{◌≡◌, ◌≢◌, ℕ, ◌+◌, ◌++◌, ◌<◌, ◌≤◌, ◌^◌, List, [], ◌∷◌, IfOk, OnOk, length, map};
 ghost use Rattle.std.specs.List.{All};
 ghost use Rattle.std.specs.Arc.{arc_value};

@@ -42,7 +42,7 @@ pub fn first_illegal(
     Ok(None)
 }
 
-// Whether the entry may stand behind a history: its row has not claimed there, and its reply is the first
+// Whether the entry may stand behind a history. Its row has not claimed there. Its reply is the first
 // donor of its ranking with uses left, or nobody where none has. `uses` and `replies` are the tables of
 // that history, as `indexes` has them.
 fn is_next(uses: &[u32], replies: &[Option<Option<u32>>], limit: u32, entry: &Entry) -> bool

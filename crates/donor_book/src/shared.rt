@@ -91,8 +91,8 @@ impl Pass {
         self.seat
     }
 
-    // What the row was given by the claims that the pass has seen: None where none is the row's, and else a
-    // donor, or a None inside for nobody.
+    // What the row was given by the claims that the pass has seen. It is None where none of them is the
+    // row's, and else a donor, or a None inside for nobody.
     fn reply_of(&self, row_no: u32) -> Option<Option<u32>>
         requires { row_no < self.now.book.terms.rows }
         ensures reply { result ≡ option_map (λ w. w.reply) (claim_of row_no self.now.seen) }

@@ -1,8 +1,9 @@
 //! A printer in memory, for tests and worked cases: what was printed can be looked at, and a line can be
 //! made to fail. What was printed so far is called its page here.
 //!
-//! In contracts, `line_of` is a line's text with its line feed. `IsDue` says that the next line is the one
-//! that is to fail, and `IsTooMuch` that a line is longer than the room that is left, which is `free`.
+//! In contracts, `line_of` is a line's text with its line feed. `IsDue` says that the next line is the
+//! one that is to fail. `IsTooMuch` says that a line is longer than the room that is left, which is
+//! `free`.
 ghost use Rattle.std.specs.Prelude.{◌≡◌, ◌↔◌, ◌⊎◌, ◌≤◌, ◌-◌, ◌+◌, ◌++◌, [], Some, None, IfOk, IsErr, IsTrue, length, take, vec_capacity};
 ghost use Rattle.edit_desk.specs.Desk.{raised};
 ghost use Rattle.edit_desk.specs.Page.{IsDue, IsTooMuch, free, printer_room};

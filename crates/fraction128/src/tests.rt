@@ -210,8 +210,8 @@ fn refuse_all(rt: &impl Abort, texts: &[&str]) {
     }
 }
 
-/// Any other text spells no fraction: one that is not in lowest terms, has a sign or a zero too much, or
-/// has a number out of range.
+/// Other texts spell no fraction. Some are not in lowest terms, some have a sign or a zero too much, and some
+/// have a number out of range.
 #[test]
 fn other_texts_are_refused(rt: HostRuntime) {
     refuse_all(&rt, &OTHER_TEXTS)

@@ -43,6 +43,7 @@ abbrev pub without_child_at : List ℕ → List Frame → Content → Draft
 without_child_at language [] here = record { language = language; frames = []; here = here }
 without_child_at language (frame ∷ frames) here = record { language = language; frames = frames; here = ended frame here }
 
+-- the same of a draft
 abbrev pub without_child : Draft → Draft
 without_child draft = without_child_at draft.language draft.frames draft.here
 
@@ -51,6 +52,7 @@ abbrev pub whole_of : List Frame → Content → Content
 whole_of [] here = here
 whole_of (frame ∷ frames) here = whole_of frames (ended frame here)
 
+-- the same of a draft
 abbrev pub whole : Draft → Content
 whole draft = whole_of draft.frames draft.here
 

@@ -35,6 +35,7 @@ abbrev pub closed_at : List ℕ → List Tag → OpenPage
 closed_at text [] = record { text = text; tags = [] }
 closed_at text (tag ∷ tags) = record { text = text ++ end_text tag; tags = tags }
 
+-- the same of a page
 abbrev pub closed : OpenPage → OpenPage
 closed page = closed_at page.text page.tags
 

@@ -50,10 +50,11 @@ content_text (Style rest) = style_text ++ content_text rest
 content_text (Void tag attributes rest) = void_text tag attributes ++ content_text rest
 content_text (Element tag attributes inside rest) = start_text tag attributes ++ content_text inside ++ end_text tag ++ content_text rest
 
--- what stands before and behind all that a page holds
+-- what stands before all that a page holds: the document type, and the start of `html` with the language
 unfoldable pub page_start : List ℕ → List ℕ
 page_start language = codes "<!DOCTYPE html>\n<html" ++ attribute_text (Language, language) ++ codes ">\n"
 
+-- what stands behind all that a page holds
 unfoldable pub page_end : List ℕ
 page_end = codes "\n</html>\n"
 

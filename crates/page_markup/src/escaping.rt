@@ -24,8 +24,8 @@ pub(crate) fn push_escaped(text: &mut Vec<u8>, words: &[u8]) -> Result<(), OutOf
     Ok(())
 }
 
-// Appends a byte of a text as it is written in a page: as an entity where it has a meaning in markup, and
-// else as `push_plain` does. `readable` says whether the whole text is UTF-8.
+// Appends a byte of a text as it is written in a page. It is an entity where the byte has a meaning in
+// markup; else it is as `push_plain` has it. `readable` says whether the whole text is UTF-8.
 fn push_byte(text: &mut Vec<u8>, readable: bool, byte: u8) -> Result<(), OutOfMemory>
     ensures { OnOk result (text.new.items ≡ text.old.items ++ escaped_byte readable byte) }
 {

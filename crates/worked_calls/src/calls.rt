@@ -172,10 +172,10 @@ fn donors_told(
     }
 }
 
-// What the words of `rank` or `measured` ask for. `path` has letters, `row` is the number of a record,
-// from 1 (from 0 in the answer), and `near` is how many donors are ranked at most. `class` has the name
-// of a class field, or nothing. `CallFault::Words` where it has more words or a word is no number, and
-// `CallFault::Number` for the record 0.
+// What the words of `rank` or `measured` ask for. `path` has letters, and `row` is the number of a
+// record, from 1; in the answer it is from 0. `near` is how many donors are ranked at most. `class` has
+// the name of a class field, or nothing. `CallFault::Words` where it has more words or a word is no
+// number, and `CallFault::Number` for the record 0.
 fn asked_by<'a>(
     path: &'a str,
     row: &str,

@@ -42,17 +42,17 @@ struct Among {
     class_field: Option<u32>,
 }
 
-/// What was found of a record's donors: the nearest ones, by their numbers in the record file, from 0, the
-/// nearest first, and how often two values were measured.
+/// What was found of a record's donors. They are the nearest ones, the nearest first, by their numbers in
+/// the record file, from 0. `measured` is how often two values were measured.
 #[derive(Drop)]
 struct Found {
     donors: Vec<u32>,
     measured: u64,
 }
 
-/// The answer of the call `rank`: one line with `donors` and the numbers, from 1, that the nearest donors
-/// have in the record file, the nearest first. `records` has the bytes of that file. The faults are those
-/// of `find_donors`.
+/// The answer of the call `rank`: one line with `donors` and the numbers of the nearest donors, the
+/// nearest first. They are those in the record file, from 1. `records` has the bytes of that file. The
+/// faults are those of `find_donors`.
 pub fn rank_told(
     alloc: Global,
     survey: &Survey,

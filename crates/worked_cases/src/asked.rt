@@ -1,4 +1,4 @@
-//! What the words of a command line ask for, as one line: worked cases show it, so that the reading of
+//! What the words of a command line ask for, as one line. Worked cases show it, so that the reading of
 //! words is tested without a run. Each helper but two looks for one command. It answers an empty text
 //! where the words are not this command's, so that only one of them tells something.
 
@@ -118,8 +118,9 @@ fn panel_told(alloc: Global, words: &[String]) -> Result<String, OutOfMemory> {
     )?)
 }
 
-// The command `make`, which makes a survey, as the words ask for it, with its two files, the number `start`
-// that its records follow from, and how many rows. The text is empty where they don't ask for it.
+// The command `make`, which makes a survey, as the words ask for it. It has two files, the number `start`
+// that the records follow from, and how many rows there are. The text is empty where they don't ask for
+// it.
 fn make_told(alloc: Global, words: &[String]) -> Result<String, OutOfMemory> {
     let Some(asked) = make_asked(alloc, words)? else {
         return Ok(String::new(alloc));

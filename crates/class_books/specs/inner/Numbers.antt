@@ -31,10 +31,11 @@ abbrev pub donor_with : List ℕ → ℕ → Option ℕ → Option ℕ
 donor_with class_of class None = None
 donor_with class_of class (Some number) = slice_get (rows_in class_of class) number
 
--- a claim, an entry and an answer of the class's book, with the numbers of the whole file
+-- a row that has claimed in the class's book, with the numbers of the whole file
 abbrev pub won_with : List ℕ → ℕ → Won → Won
 won_with class_of class w = record { row_no = row_with class_of class w.row_no; reply = donor_with class_of class w.reply }
 
+-- an entry of the class's book, with the numbers of the whole file
 abbrev pub entry_with : List ℕ → ℕ → Entry → Entry
 entry_with class_of class e =
     record {
@@ -43,9 +44,11 @@ entry_with class_of class e =
       reply = donor_with class_of class e.reply;
     }
 
+-- the same of an entry at its place
 abbrev pub placed_with : List ℕ → ℕ → Placed → Placed
 placed_with class_of class m = record { place = m.place; entry = entry_with class_of class m.entry }
 
+-- an answer of the class's book, with the numbers of the whole file
 abbrev pub claim_with : List ℕ → ℕ → Claim → Claim
 claim_with class_of class (claim.Given donor) = claim.Given (row_with class_of class donor)
 claim_with class_of class claim.Nobody = claim.Nobody

@@ -32,8 +32,8 @@ impl Fraction {
     }
 }
 
-/// The fraction with these two numbers as they were read, or None where the denominator is not positive or
-/// they have a common divisor above 1: then they are no canonical spelling.
+/// The fraction with these two numbers as they were read, or None where the denominator is not positive
+/// or they have a common divisor above 1. Such numbers are no canonical spelling.
 fn in_lowest_terms(numerator: i128, denominator: i128) -> Option<Fraction>
     requires numerator_in_range { InRange numerator }
     requires denominator_in_range { InRange denominator }
