@@ -2,7 +2,7 @@
 //! its output, as a file of cases spells them. One that fails says so in these; `Err` is for want of
 //! memory alone.
 
-use crate::line_edits::{LineEdit, edit_lines, line_count};
+use crate::line_edits::{LineEdit, change_lines, line_count};
 use crate::spelling::spelled_lines;
 use foundation::OutOfMemory;
 use std::alloc::Global;
@@ -118,7 +118,7 @@ impl Files {
             let text = format!(in alloc; "sed: {name}: no line {line}")?;
             return failure_lines(alloc, text, 1);
         }
-        let bytes = edit_lines(alloc, bytes, edits)?;
+        let bytes = change_lines(alloc, bytes, edits)?;
         self.write(alloc, name, bytes)
     }
 }

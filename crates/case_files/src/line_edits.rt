@@ -87,7 +87,11 @@ pub fn line_count(bytes: &[u8]) -> u64 {
 /// The bytes with all these changes of their lines made. Lines have the numbers that they have before any
 /// change. Of two changes that leave out or take the place of one line, the first holds. Texts behind one
 /// line all stand there, in order. A change of a line that is not there does nothing.
-pub fn edit_lines(alloc: Global, bytes: &[u8], edits: &[LineEdit]) -> Result<Vec<u8>, OutOfMemory> {
+pub fn change_lines(
+    alloc: Global,
+    bytes: &[u8],
+    edits: &[LineEdit],
+) -> Result<Vec<u8>, OutOfMemory> {
     let mut new = Vec::new(alloc);
     append_texts(&mut new, edits, 0)?;
     for (index, line) in bytes.split_inclusive(|byte| *byte == b'\n').enumerate() {
