@@ -1,4 +1,5 @@
-//! A file of cases, read line by line: its commands, each with the output that is to come of it.
+//! A file of cases, read line by line: its commands, each with the output that is to come of it. A step is
+//! one such command. Each call named `take_` reads one line, and answers what the next line may be.
 
 use crate::command::Command;
 use crate::commands::Commands;
@@ -33,9 +34,9 @@ enum Place {
     AtEnd,
 }
 
-/// The commands of a file of cases, in order; those beside the commands of files are `C`'s. The first
-/// line that is not in form is told by its number, from 1. A `cat >NAME <<EOF` without an end is told by
-/// the last line of the file.
+/// Reads the bytes of a file of cases: its commands, in order, each with its output. Those beside the
+/// commands of files are `C`'s. The first line that is not in form is told by its number, from 1. Where a
+/// `cat >NAME <<EOF` has no end, the last line of the file is told.
 pub fn steps_of<'a, C: Commands>(
     alloc: Global,
     bytes: &'a [u8],

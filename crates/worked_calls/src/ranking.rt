@@ -1,7 +1,8 @@
 //! The nearest donors for a record of a record file, and how often two values are measured to find them.
 //! In contracts, `HasPlainNumbers` says that the numbers of a record are plain: numerators below 10^21,
 //! denominators of at most 10^6. `IsRow` says that a record has for each field a value of its kind, or
-//! none.
+//! none. A deck has the clean records that may be donors, ordered for the search; a sheet is a record file
+//! that was read.
 ghost use Rattle.std.specs.Prelude.{◌≡◌, ◌<◌, IfOk};
 ghost use Rattle.std.specs.List.{AllByRecursion};
 ghost use Rattle.edit_model.specs.PlainNumbers.{HasPlainNumbers};
