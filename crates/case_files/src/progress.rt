@@ -12,7 +12,7 @@ pub struct Count {
 }
 
 impl Count {
-    /// The count of no cases.
+    /// The count of no cases, to which those of files are added.
     pub fn none() -> Count
         ensures { result ≡ record { passed = 0; failed = 0 } }
     {

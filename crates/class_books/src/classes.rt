@@ -75,7 +75,7 @@ impl Classes {
         })
     }
 
-    /// How many passes there are. No memory.
+    /// How many passes over the classes there are, one for each worker. No memory.
     pub fn passes(&self) -> u32
         ensures { result ≡ self.now.passes }
     {

@@ -76,7 +76,7 @@ pub trait Desk {
 
     /// The bytes of the file of this `name`, which has at most `limit` of them. `TooLong` where it has
     /// more, `Failed` where it is not there or can't be read, `OutOfMemory` where memory was refused. No
-    /// file is changed. The call is put on record, but for want of memory.
+    /// file is changed. The call is put on record, unless memory was refused.
     fn fetch(&mut self, alloc: Global, name: &str, limit: u64) -> Result<Vec<u8>, FetchError>
         ensures files { files self.new ≡ files self.old }
         ensures within { IfOk result (λ bytes. length bytes.items ≤ limit) }
@@ -86,8 +86,8 @@ pub trait Desk {
         ensures faults { faults self.new ≡ after_fetch result (faults self.old) };
 
     /// Puts the bytes under `name`, in the place of what stood there. Where it is `Failed`, some first
-    /// bytes may stand there. Where it is `OutOfMemory`, no file is changed. The call is put on record, but
-    /// for want of memory.
+    /// bytes may stand there. Where it is `OutOfMemory`, no file is changed. The call is put on record,
+    /// unless memory was refused.
     fn store(&mut self, alloc: Global, name: &str, bytes: &[u8]) -> Result<(), StoreError>
         ensures files { Told (files self.old) (files self.new) (λ old new. Stores old new name.now bytes.now result) }
         ensures calls { Told (calls self.old) (calls self.new) (λ old new. new ≡ old ++ store_record name.now result) }

@@ -27,8 +27,8 @@ impl From<AllocError> for OutOfMemory {
 }
 
 impl<T: Drop> From<AllocFailed<T>> for OutOfMemory {
-    // Lets `?` turn the refusal of a call that gives back what found no room, which is dropped, into this
-    // answer.
+    // Lets `?` turn the refusal of a call into this answer where the call gives back what found no room. That
+    // is dropped.
     fn from(_refused: AllocFailed<T>) -> Self {
         OutOfMemory
     }

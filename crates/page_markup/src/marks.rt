@@ -40,7 +40,8 @@ pub(crate) fn push_end(text: &mut Vec<u8>, tag: Tag) -> Result<(), OutOfMemory>
     Ok(())
 }
 
-/// Appends a whole element that holds nothing, with its attributes, such as `<line x1="0" />`.
+/// Appends a whole element of a kind that never holds anything, with its attributes, such as
+/// `<line x1="0" />`.
 pub(crate) fn push_void(
     text: &mut Vec<u8>,
     tag: VoidTag,

@@ -98,7 +98,7 @@ impl Tag {
     }
 }
 
-/// An element that holds nothing. `Meta` stands in the head, the shapes in a drawing.
+/// An element that never holds anything. `Meta` stands in the head, the shapes in a drawing.
 #[derive(Clone, Copy, Debug, PartialEq, Eq)]
 pub enum VoidTag {
     /// `meta`
