@@ -11,8 +11,8 @@ ghost use Rattle.proof_grammar.specs.Cuts.{split};
 ghost use Rattle.proof_grammar.specs.Words.{ReadsAs, Takes, divisor_said, ended, fixed_said, long_said, named_long, named_short, named_short_or_0, path_said, place_said, positive_said, short_said, whole_said, word_in};
 
 use crate::numbers::{
-    read_divisor, read_named_u32, read_named_u32_or_none, read_named_u64, read_one_less, read_place,
-    read_u32, read_u64, read_whole,
+    read_divisor, read_named_u32, read_named_u32_or_none, read_named_u64, read_one_less,
+    read_place, read_u32, read_u64, read_whole,
 };
 use crate::paths::read_path;
 use bound_cert::Path;

@@ -22,8 +22,8 @@ use Rattle.run_parts.proofs.CallLaws.{all-calls, behind-calls, less-calls, memor
 use Rattle.run_parts.proofs.CallLaws.{then-calls, told-calls}
 use Rattle.run_parts.proofs.InputLaws.{records-due}
 use Rattle.run_parts.proofs.ToldLaws.{both-told, each-told, handed, three-told, where-told}
-<use Rattle.check_command.proofs.check_run.check_files.Goals as goal
-=
+use Rattle.check_command.proofs.check_run.check_files.Goals as goal
+
 -- what these words ask for
 abbrev asked_in : Inside → CheckAsked
 asked_in w = check_of w.rules.now w.records.now w.released.now w.proof.now

@@ -7,8 +7,8 @@ use Rattle.command_words.proofs.AskedLaws.{make_of}
 use Rattle.make_command.proofs.MakeLaws.{all-made}
 use Rattle.run_parts.proofs.ToldLaws.{handed, less-told}
 use Rattle.run_parts.proofs.WordLaws.{told-same}
-<use Rattle.make_command.proofs.make_run.make_survey.Goals as goal
-=
+use Rattle.make_command.proofs.make_run.make_survey.Goals as goal
+
 pub returns-in_default-clause-asked : goal.returns-in_default-clause-asked
 returns-in_default-clause-asked g c =
     let before = g.D.Desk.calls c.args.desk.now in

@@ -10,8 +10,8 @@ use Rattle.command_words.proofs.AskedLaws.{rules_of}
 use Rattle.run_parts.proofs.CallLaws.{less-calls}
 use Rattle.rules_command.proofs.RulesLaws.{read-rules-due}
 use Rattle.run_parts.proofs.ToldLaws.{each-told, where-told}
-<use Rattle.rules_command.proofs.rules_run.report_rules.Goals as goal
-=
+use Rattle.rules_command.proofs.rules_run.report_rules.Goals as goal
+
 pub returns-in_default-clause-asked : goal.returns-in_default-clause-asked
 returns-in_default-clause-asked g c =
     rw c.out_of_memory.ensures
