@@ -82,7 +82,8 @@ fn path_to(alloc: Global, depth: u32, number: u64) -> Result<Vec<bool>, OutOfMem
     Ok(letters)
 }
 
-// A list of `count` steps; where it is `broken`, the last names a line that is not there.
+// A list of `count` steps, each of which takes the one given line. Where it is `broken`, the last takes a line
+// that is not there instead, so that the list is not valid; an empty list has no last step, and is the same.
 fn steps_of(alloc: Global, count: u64, broken: bool) -> Result<Vec<Step>, OutOfMemory>
     ensures { IfOk result (λ steps. steps.items ≡ steps_of count broken) }
 {

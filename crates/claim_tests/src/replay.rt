@@ -21,7 +21,9 @@ fn entry(alloc: Global, row_no: u32, reply: Option<u32>) -> Result<Entry, Fail>
     })
 }
 
-// A history of the claims of these rows, in order, with their replies; each ranks donor 1 before donor 0.
+// A history with one claim for each pair, in order: the row's number, below 4, and the reply, which is the
+// number of the donor that it was given, or None if it was given nobody. Each claim ranks donor 1 before
+// donor 0. It fails where memory is refused.
 fn entries(alloc: Global, claims: &[(u32, Option<u32>)]) -> Result<Vec<Entry>, Fail>
     requires { All (λ claim. claim.0 < 4) claims.now }
     ensures { IfOk result (λ entries. All (IsEntryWithin 2 4) entries.items) }

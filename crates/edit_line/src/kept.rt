@@ -1,5 +1,6 @@
 //! A list of lines that stays reduced as lines are taken in: elimination puts each line that it makes in
-//! here.
+//! here. A key is 64 bits made of a line's factors, by which most lines are told apart without comparing
+//! them.
 //!
 //! In contracts, `with_derived` has the kept lines after one more is taken in. `NoneOver` says that lines
 //! before a place need not be asked whether they subsume the given one. `NoneUnder` says that the given
@@ -147,8 +148,8 @@ fn first_agreeing(lines: &[Derived], keys: &[u64], line: &Line, key: u64) -> usi
     lines.len()
 }
 
-// Whether one of the lines subsumes the given line, whose key is `key`. No line before the place `first`
-// does.
+// Whether one of the lines, whose keys are `keys`, subsumes the given line, whose key is `key`. No line before
+// the place `first` does, so the search begins there.
 fn is_subsumed(lines: &[Derived], keys: &[u64], line: &Line, key: u64, first: usize) -> bool
     requires keyed { keys.now ≡ keys_of lines.now }
     requires key { key ≡ key_of line.now.factors }

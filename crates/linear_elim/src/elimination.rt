@@ -136,9 +136,9 @@ pub fn reduced_step<L: Ledger>(
     finish_step(alloc, &given, flat, steps)
 }
 
-// What [`step`] answers, from the lines without the field, `flat`: those that the step makes are taken
-// in among them. One is taken in as soon as it is made, so that no memory is taken for one that says
-// nothing of its own. One step is counted for each pair that is combined.
+// What [`step`] answers, from the lines without the field, `flat`: those that the elimination makes are taken
+// in among them. One is taken in as soon as it is made, so that no memory is taken for one that another
+// line subsumes. `steps` rises by one for each pair that is combined.
 fn finish_step<L: Ledger>(
     alloc: Global,
     given: &StepLines,

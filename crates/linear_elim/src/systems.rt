@@ -93,7 +93,9 @@ impl Systems for Recompute {
 
     ghost keeps = { λ _ _. true };
 
-    // The fold over the fields, from the reduced edits; the system is the caller's own.
+    // The system without these fields: they are eliminated one after the other, from the reduced edits on.
+    // `steps` rises by the pairs of lines that are combined. The fault is the first overflow, or want of
+    // memory. The system is the caller's own, since nothing is kept.
     fn system<L: Ledger>(
         &mut self,
         alloc: Global,
@@ -112,7 +114,8 @@ impl Systems for Recompute {
         Ok(Held::Own(fold_system(alloc, edits, fields, steps)?))
     }
 
-    // The step at the field, from the system before; the system is the caller's own.
+    // The system behind the one before, without one field more. The steps and the fault are as above, and the
+    // system is the caller's own, too.
     fn system_after<L: Ledger>(
         &mut self,
         alloc: Global,

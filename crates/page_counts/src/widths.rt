@@ -40,7 +40,7 @@ fn reaches(least: i128, greatest: i128, unit: i128, width: i128) -> bool
     unit <= width && bins_needed(least, greatest, width) <= 20
 }
 
-// The width of this step, from 0: 1, 2, 5, 10, 20, 50 and so on.
+// The width that stands at this place, from 0, in the row 1, 2, 5, 10, 20, 50 and so on, in thousandths.
 fn round_width(step: u32) -> i128
     requires { step ≤ 108 }
     ensures is { result ≡ round_width step }

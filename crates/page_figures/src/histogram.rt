@@ -145,7 +145,9 @@ fn push_tick(page: &mut PageWriter, label: &[u8], x: u64, wait: u64) -> Result<(
     }
 }
 
-// Adds the bars of a bin, from the left end `start` on, each in the next colour.
+// Adds a group with the bars of a bin, side by side from the left end `start` on: one for each of `parts`, the
+// bin's counts, each in the next colour. A count of `layout.greatest` is drawn at full height, and one of 0
+// as a bar without height.
 fn push_uprights(
     page: &mut PageWriter,
     parts: &[u64],

@@ -101,8 +101,10 @@ fn push_change<'a>(
     Ok(())
 }
 
-// The row of a change. It has the number of its record, from 1, and what all changes of that record weigh.
-// Then come the name of the changed field, and its bytes before and after.
+// The row of a change. It has the number of its record, from 1, and what all changes of that record weigh,
+// which `amount` has. Then come the name of the changed field, and its bytes before and after. `numbers` are
+// those of the released records. A name or a text is empty where the survey has no such field, or where the
+// record is not released.
 fn change_row<'a>(
     alloc: Global,
     release: &Release<'a>,

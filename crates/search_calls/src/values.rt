@@ -104,9 +104,10 @@ fn has_bad(row: &Row) -> bool
     row.values().iter().any(|value| value.is_bad())
 }
 
-// What the record is given in the place of the fields that the search changes, from the donor, if there
-// is one. The inner `Err` says where a number leaves the range. `CallFault::NoChange` where the search
-// finds no change.
+// The values that the record is given at the fields that the search changes. The first choice is the donor's
+// value; without a donor it is 0, or the first code. The inner `Err` is answered if a number leaves the range
+// while values are given, and says which, or if memory is refused then. The outer one is
+// `CallFault::NoChange` if the search finds no change, or want of memory before that.
 fn gift_of(
     alloc: Global,
     survey: &Survey,
@@ -122,7 +123,9 @@ fn gift_of(
 }
 
 // The fields that a change of the record changes, as the search finds them by these edits, which hold
-// exactly at the consistent points (`SayTheRules`). `CallFault::NoChange` where the search finds none.
+// exactly at the consistent points (`SayTheRules`). For a record that is right there are none. Where the search
+// ends in any other way it is `CallFault::NoChange`: no correction, its budget, the range of numbers, and want
+// of memory, which is not told apart here.
 // The call of `case_known` computes nothing; it shows that the survey, the edits and the record are a
 // case.
 fn changed_fields(
