@@ -15,7 +15,7 @@ use Rattle.record_editing.specs.declared.terms.Terms.{Terms}
 use Rattle.pruned_rules.specs.Pruned.{kept_edits}
 use Rattle.edit_release.specs.Edits.{IsEditOf, Written}
 use Rattle.edit_release.specs.Guarantee.{HasValuesOrStop, IsGuaranteed, IsGuaranteedEnd, usable_edits}
-use Rattle.edit_release.specs.Laws.{IsLeastCorrection}
+use Rattle.edit_release.specs.Laws.{IsCorrectedAtLeastWeight}
 
 -- What an edit guarantees is over the lines of the rules that its verdicts keep.
 
@@ -40,7 +40,7 @@ edit-says survey sheet terms ends history written edit =
 module _ (survey : SurveyParts) (kept : List Bool) (budget : ℕ) where
   released-end : (row : List Value) (o : Outcome) (stop : Option GiftFault) (gift : Option Gift) → HasValuesOrStop o stop gift
       → IfSome gift (λ (g : Gift). IsRow survey.fields g.row) → OutcomeSays survey (usable_edits survey kept) budget row o gift
-      → IfSome gift (λ (g : Gift). IsLeastCorrection survey row g.row)
+      → IfSome gift (λ (g : Gift). IsCorrectedAtLeastWeight survey row g.row)
   released-end row o stop None ends fits says = tt
   released-end row (Change path weight cert) stop (Some gift) ends fits says = record { fits = fits; path = path; weight = weight; corrected = says }
   released-end row (Budget path work) None (Some gift) ends fits says = absurd ends
@@ -51,7 +51,7 @@ module _ (survey : SurveyParts) (kept : List Bool) (budget : ℕ) where
   released-end row (Contradictory cert) (Some stop) (Some gift) ends fits says = absurd ends
 
   released-each : (rows : List (List Value)) (ends : List RowEnd) → AllZip (IsGuaranteedEnd survey kept budget) rows ends
-      → AllZip (λ row (end : RowEnd). IfSome end.gift (λ (g : Gift). IsLeastCorrection survey row g.row)) rows ends
+      → AllZip (λ row (end : RowEnd). IfSome end.gift (λ (g : Gift). IsCorrectedAtLeastWeight survey row g.row)) rows ends
   released-each [] [] each = tt
   released-each [] (end ∷ ends) each = absurd each
   released-each (row ∷ rows) [] each = absurd each
@@ -62,5 +62,5 @@ module _ (survey : SurveyParts) (kept : List Bool) (budget : ℕ) where
 
 pub released-least : (survey : SurveyParts) (sheet : SheetParts) (terms : Terms) (ends : List RowEnd) (history : List Entry)
     → IsGuaranteed survey sheet terms ends history
-    → AllZip (λ row (end : RowEnd). IfSome end.gift (λ (g : Gift). IsLeastCorrection survey row g.row)) sheet.rows ends
+    → AllZip (λ row (end : RowEnd). IfSome end.gift (λ (g : Gift). IsCorrectedAtLeastWeight survey row g.row)) sheet.rows ends
 released-least survey sheet terms ends history guaranteed = released-each survey guaranteed.kept terms.budget sheet.rows ends guaranteed.each

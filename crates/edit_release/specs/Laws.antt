@@ -15,7 +15,7 @@ use Rattle.edit_release.specs.Edits.{IsEditOf, Written}
 use Rattle.edit_release.specs.Guarantee.{IsGuaranteed}
 
 -- these values are a record of the survey, and a correction of the record that was read of which no other weighs less
-pub record IsLeastCorrection (survey : SurveyParts) (row new : List Value) : Type 0 where
+pub record IsCorrectedAtLeastWeight (survey : SurveyParts) (row new : List Value) : Type 0 where
   pub fits : IsRow survey.fields new
   pub path : List Bool
   pub weight : ℕ
@@ -25,7 +25,7 @@ pub record IsLeastCorrection (survey : SurveyParts) (row new : List Value) : Typ
 abbrev pub ReleasedLaw : Type 0
 ReleasedLaw = (survey : SurveyParts) (sheet : SheetParts) (terms : Terms) (ends : List RowEnd) (history : List Entry)
     → IsGuaranteed survey sheet terms ends history
-    → AllZip (λ row (end : RowEnd). IfSome end.gift (λ (gift : Gift). IsLeastCorrection survey row gift.row)) sheet.rows ends
+    → AllZip (λ row (end : RowEnd). IfSome end.gift (λ (gift : Gift). IsCorrectedAtLeastWeight survey row gift.row)) sheet.rows ends
 
 -- two edits of one sheet that was read of a survey, on the same terms and with the same claims of donors, are one: each record ends
 -- the same, and the same is written and printed
