@@ -4,7 +4,7 @@ ghost use Rattle.edit_line.specs.Lines.{AreOver};
 ghost use Rattle.edit_line.specs.Shapes.{shape_of};
 ghost use Rattle.edit_normal.specs.RuleLines.{SayEachRule, normal_lines_of, rule_lines_from};
 
-use crate::rule_line::RuleLine;
+use crate::rule_line::{NumberedRule, RuleLine};
 use crate::rule_lines::push_rule;
 use crate::survey_shape::SurveyShape;
 use edit_line::Line;
@@ -26,7 +26,11 @@ pub fn normal_lines(alloc: Global, survey: &Survey) -> Result<Vec<RuleLine>, Out
     let fields = SurveyShape::of(alloc, survey)?;
     let mut lines = Vec::new(alloc);
     for (number, rule) in survey.rules().iter().enumerate() {
-        push_rule(alloc, &fields, number as u32, rule, &mut lines)?;
+        let numbered = NumberedRule {
+            number: number as u32,
+            rule,
+        };
+        push_rule(alloc, &fields, &numbered, &mut lines)?;
     }
     Ok(lines)
 }

@@ -1,6 +1,6 @@
 //! The normal lines of one rule. Conditions on codes narrow the sets of a line, and what is left to say of
-//! numbers is its linear part. Below, `fields` is the survey's shape, `rule` or `number` the rule's
-//! number, and `lines` the list that grows.
+//! numbers is its linear part. Below, `fields` is the survey's shape, `rule` the rule's number, and `lines`
+//! the list that grows.
 //!
 //! In contracts, `joined_by` has the lines before, and behind them those of the others in which no set is
 //! empty. `FitsCodes` says that a test on codes is on a categorical field, and `AreWithin` that no set has
@@ -15,11 +15,11 @@ ghost use Rattle.edit_normal.specs.inner.Sides.{MayAsk, joined_by, side_line};
 ghost use Rattle.edit_normal.specs.inner.Fits.{FitsCodes};
 
 use crate::narrow::{narrow, narrow_where_false};
-use crate::rule_line::RuleLine;
+use crate::rule_line::{NumberedRule, RuleLine};
 use crate::side::{Side, side_line};
 use crate::survey_shape::SurveyShape;
 use edit_line::{Line, Relation};
-use edit_model::{Compare, Linear, Rule, Test};
+use edit_model::{Compare, Linear, Test};
 use foundation::OutOfMemory;
 use std::alloc::Global;
 
@@ -28,18 +28,17 @@ use std::alloc::Global;
 pub(crate) fn push_rule(
     alloc: Global,
     fields: &SurveyShape,
-    number: u32,
-    rule: &Rule,
+    numbered: &NumberedRule,
     lines: &mut Vec<RuleLine>,
 ) -> Result<(), OutOfMemory>
-    requires conditions { All (FitsCodes fields.now) rule.now.conditions }
-    requires conclusion { FitsCodes fields.now rule.now.conclusion }
-    ensures { OnOk result (lines.new.items ≡ joined_by lines.old.items number (all_lines_of fields.now rule.now)) }
+    requires conditions { All (FitsCodes fields.now) numbered.now.rule.now.conditions }
+    requires conclusion { FitsCodes fields.now numbered.now.rule.now.conclusion }
+    ensures { OnOk result (lines.new.items ≡ joined_by lines.old.items numbered.now.number (all_lines_of fields.now numbered.now.rule.now)) }
 {
-    if rule.conditions.as_slice().is_empty() {
-        push_always(alloc, fields, &rule.conclusion, number, lines)
+    if numbered.rule.conditions.as_slice().is_empty() {
+        push_always(alloc, fields, numbered, lines)
     } else {
-        push_implied(alloc, fields, number, rule, lines)
+        push_implied(alloc, fields, numbered, lines)
     }
 }
 
@@ -47,18 +46,18 @@ pub(crate) fn push_rule(
 fn push_always(
     alloc: Global,
     fields: &SurveyShape,
-    conclusion: &Test,
-    rule: u32,
+    numbered: &NumberedRule,
     lines: &mut Vec<RuleLine>,
 ) -> Result<(), OutOfMemory>
-    requires { FitsCodes fields.now conclusion.now }
-    ensures { OnOk result (lines.new.items ≡ joined_by lines.old.items rule (always_lines fields.now conclusion.now)) }
+    requires { FitsCodes fields.now numbered.now.rule.now.conclusion }
+    ensures { OnOk result (lines.new.items
+        ≡ joined_by lines.old.items numbered.now.number (always_lines fields.now numbered.now.rule.now.conclusion)) }
 {
-    match conclusion {
-        Test::Number(linear) => push_compare_always(alloc, fields, linear, rule, lines),
+    match &numbered.rule.conclusion {
+        Test::Number(linear) => push_compare_always(alloc, fields, linear, numbered.number, lines),
         Test::Codes { .. } => {
             let sets = Vec::from_slice(alloc, fields.wholes())?;
-            push_conclusion(alloc, fields, sets, conclusion, rule, lines)
+            push_conclusion(alloc, fields, sets, numbered, lines)
         }
     }
 }
@@ -88,17 +87,17 @@ fn push_compare_always(
 fn push_implied(
     alloc: Global,
     fields: &SurveyShape,
-    number: u32,
-    rule: &Rule,
+    numbered: &NumberedRule,
     lines: &mut Vec<RuleLine>,
 ) -> Result<(), OutOfMemory>
-    requires conditions { All (FitsCodes fields.now) rule.now.conditions }
-    requires conclusion { FitsCodes fields.now rule.now.conclusion }
+    requires conditions { All (FitsCodes fields.now) numbered.now.rule.now.conditions }
+    requires conclusion { FitsCodes fields.now numbered.now.rule.now.conclusion }
     ensures { OnOk result (lines.new.items
-        ≡ joined_by lines.old.items number (implied_lines fields.now (whole_sets fields.now) rule.now.conditions rule.now.conclusion)) }
+        ≡ joined_by lines.old.items numbered.now.number
+        (implied_lines fields.now (whole_sets fields.now) numbered.now.rule.now.conditions numbered.now.rule.now.conclusion)) }
 {
     let mut sets = Vec::from_slice(alloc, fields.wholes())?;
-    for condition in rule.conditions.as_slice() {
+    for condition in numbered.rule.conditions.as_slice() {
         match condition {
             Test::Codes {
                 field,
@@ -106,11 +105,11 @@ fn push_implied(
                 codes,
             } => narrow(fields, &mut sets, *field, *negated, *codes),
             Test::Number(linear) => {
-                return push_condition(alloc, fields, sets, linear, &rule.conclusion, number, lines);
+                return push_condition(alloc, fields, sets, linear, numbered, lines);
             }
         }
     }
-    push_conclusion(alloc, fields, sets, &rule.conclusion, number, lines)
+    push_conclusion(alloc, fields, sets, numbered, lines)
 }
 
 // Appends the lines of a conclusion, which are asked where the codes are in the sets. A test that
@@ -119,23 +118,23 @@ fn push_conclusion(
     alloc: Global,
     fields: &SurveyShape,
     mut sets: Vec<u64>,
-    conclusion: &Test,
-    rule: u32,
+    numbered: &NumberedRule,
     lines: &mut Vec<RuleLine>,
 ) -> Result<(), OutOfMemory>
     requires within { AreWithin sets.items (whole_sets fields.now) }
-    requires fits { FitsCodes fields.now conclusion.now }
-    ensures { OnOk result (lines.new.items ≡ joined_by lines.old.items rule (conclusion_lines fields.now sets.items conclusion.now)) }
+    requires fits { FitsCodes fields.now numbered.now.rule.now.conclusion }
+    ensures { OnOk result (lines.new.items
+        ≡ joined_by lines.old.items numbered.now.number (conclusion_lines fields.now sets.items numbered.now.rule.now.conclusion)) }
 {
-    match conclusion {
-        Test::Number(linear) => push_compare(alloc, fields, &sets, linear, rule, lines),
+    match &numbered.rule.conclusion {
+        Test::Number(linear) => push_compare(alloc, fields, &sets, linear, numbered.number, lines),
         Test::Codes {
             field,
             negated,
             codes,
         } => {
             narrow_where_false(fields, &mut sets, *field, *negated, *codes);
-            push_never(alloc, fields, sets, rule, lines)
+            push_never(alloc, fields, sets, numbered.number, lines)
         }
     }
 }
@@ -148,16 +147,16 @@ fn push_condition(
     fields: &SurveyShape,
     mut sets: Vec<u64>,
     linear: &Linear,
-    conclusion: &Test,
-    rule: u32,
+    numbered: &NumberedRule,
     lines: &mut Vec<RuleLine>,
 ) -> Result<(), OutOfMemory>
     requires within { AreWithin sets.items (whole_sets fields.now) }
-    requires fits { FitsCodes fields.now conclusion.now }
+    requires fits { FitsCodes fields.now numbered.now.rule.now.conclusion }
     ensures { OnOk result (lines.new.items
-        ≡ joined_by lines.old.items rule (condition_lines fields.now sets.items linear.now conclusion.now)) }
+        ≡ joined_by lines.old.items numbered.now.number
+        (condition_lines fields.now sets.items linear.now numbered.now.rule.now.conclusion)) }
 {
-    match conclusion {
+    match &numbered.rule.conclusion {
         Test::Number(_) => Ok(()),
         Test::Codes {
             field,
@@ -165,7 +164,7 @@ fn push_condition(
             codes,
         } => {
             narrow_where_false(fields, &mut sets, *field, *negated, *codes);
-            push_contrary(alloc, fields, &sets, linear, rule, lines)
+            push_contrary(alloc, fields, &sets, linear, numbered.number, lines)
         }
     }
 }

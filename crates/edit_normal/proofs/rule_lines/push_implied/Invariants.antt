@@ -6,8 +6,8 @@ use Rattle.edit_normal.proofs.rule_lines.push_implied.Given as goal
 
 abbrev pub invariant-loop-condition : goal.invariant-loop-condition
 invariant-loop-condition l = record {
-  same : implied_lines l.fields l.sets.items (drop l.condition-index l.rule.conditions) l.rule.conclusion
-      ≡ implied_lines l.fields (whole_sets l.fields) l.rule.conditions l.rule.conclusion;
+  same : implied_lines l.fields l.sets.items (drop l.condition-index l.numbered.rule.now.conditions) l.numbered.rule.now.conclusion
+      ≡ implied_lines l.fields (whole_sets l.fields) l.numbered.rule.now.conditions l.numbered.rule.now.conclusion;
   within : AreWithin l.sets.items (whole_sets l.fields);
   unchanged : l.lines.items ≡ l.fn.lines.items;
 }
