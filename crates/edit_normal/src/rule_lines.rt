@@ -23,6 +23,13 @@ use edit_model::{Compare, Linear, Test};
 use foundation::OutOfMemory;
 use std::alloc::Global;
 
+/// A test that compares a sum, and the sets of codes in which it is asked.
+#[derive(Clone, Copy)]
+struct TestWithin<'a> {
+    sets: &'a [u64],
+    linear: &'a Linear,
+}
+
 /// Appends the lines of a rule, each with the rule's number. A line with an empty set of codes would
 /// ask nothing, and is left out, here and below.
 pub(crate) fn push_rule(
@@ -74,11 +81,15 @@ fn push_compare_always(
     ensures { OnOk result (lines.new.items ≡ joined_by lines.old.items rule (compare_always fields.now linear.now linear.now.compare)) }
 {
     let wholes = fields.wholes();
+    let test = TestWithin {
+        sets: wholes,
+        linear,
+    };
     match linear.compare {
-        Compare::Ge | Compare::Gt | Compare::Le | Compare::Lt => push_compare(
-            alloc, fields, wholes, linear, rule, lines,
-        ),
-        Compare::Eq => push_side(alloc, fields, wholes, linear, Side::Zero, rule, lines),
+        Compare::Ge | Compare::Gt | Compare::Le | Compare::Lt => {
+            push_compare(alloc, fields, &test, rule, lines)
+        }
+        Compare::Eq => push_side(alloc, fields, &test, Side::Zero, rule, lines),
     }
 }
 
@@ -127,7 +138,13 @@ fn push_conclusion(
         ≡ joined_by lines.old.items numbered.now.number (conclusion_lines fields.now sets.items numbered.now.rule.now.conclusion)) }
 {
     match &numbered.rule.conclusion {
-        Test::Number(linear) => push_compare(alloc, fields, &sets, linear, numbered.number, lines),
+        Test::Number(linear) => {
+            let test = TestWithin {
+                sets: &sets,
+                linear,
+            };
+            push_compare(alloc, fields, &test, numbered.number, lines)
+        }
         Test::Codes {
             field,
             negated,
@@ -164,7 +181,11 @@ fn push_condition(
             codes,
         } => {
             narrow_where_false(fields, &mut sets, *field, *negated, *codes);
-            push_contrary(alloc, fields, &sets, linear, numbered.number, lines)
+            let test = TestWithin {
+                sets: &sets,
+                linear,
+            };
+            push_contrary(alloc, fields, &test, numbered.number, lines)
         }
     }
 }
@@ -174,22 +195,21 @@ fn push_condition(
 fn push_compare(
     alloc: Global,
     fields: &SurveyShape,
-    sets: &[u64],
-    linear: &Linear,
+    test: &TestWithin,
     rule: u32,
     lines: &mut Vec<RuleLine>,
 ) -> Result<(), OutOfMemory>
-    requires { AreWithin sets.now (whole_sets fields.now) }
-    ensures { OnOk result (lines.new.items ≡ joined_by lines.old.items rule (lines_for fields.now sets.now linear.now)) }
+    requires { AreWithin test.now.sets.now (whole_sets fields.now) }
+    ensures { OnOk result (lines.new.items ≡ joined_by lines.old.items rule (lines_for fields.now test.now.sets.now test.now.linear.now)) }
 {
-    match linear.compare {
-        Compare::Ge => push_side(alloc, fields, sets, linear, Side::AtLeast, rule, lines),
-        Compare::Gt => push_side(alloc, fields, sets, linear, Side::Above, rule, lines),
-        Compare::Le => push_side(alloc, fields, sets, linear, Side::AtMost, rule, lines),
-        Compare::Lt => push_side(alloc, fields, sets, linear, Side::Below, rule, lines),
+    match test.linear.compare {
+        Compare::Ge => push_side(alloc, fields, test, Side::AtLeast, rule, lines),
+        Compare::Gt => push_side(alloc, fields, test, Side::Above, rule, lines),
+        Compare::Le => push_side(alloc, fields, test, Side::AtMost, rule, lines),
+        Compare::Lt => push_side(alloc, fields, test, Side::Below, rule, lines),
         Compare::Eq => {
-            push_side(alloc, fields, sets, linear, Side::AtLeast, rule, lines)?;
-            push_side(alloc, fields, sets, linear, Side::AtMost, rule, lines)
+            push_side(alloc, fields, test, Side::AtLeast, rule, lines)?;
+            push_side(alloc, fields, test, Side::AtMost, rule, lines)
         }
     }
 }
@@ -199,19 +219,18 @@ fn push_compare(
 fn push_contrary(
     alloc: Global,
     fields: &SurveyShape,
-    sets: &[u64],
-    linear: &Linear,
+    test: &TestWithin,
     rule: u32,
     lines: &mut Vec<RuleLine>,
 ) -> Result<(), OutOfMemory>
-    requires { AreWithin sets.now (whole_sets fields.now) }
-    ensures { OnOk result (lines.new.items ≡ joined_by lines.old.items rule (lines_against fields.now sets.now linear.now)) }
+    requires { AreWithin test.now.sets.now (whole_sets fields.now) }
+    ensures { OnOk result (lines.new.items ≡ joined_by lines.old.items rule (lines_against fields.now test.now.sets.now test.now.linear.now)) }
 {
-    match linear.compare {
-        Compare::Ge => push_side(alloc, fields, sets, linear, Side::Below, rule, lines),
-        Compare::Gt => push_side(alloc, fields, sets, linear, Side::AtMost, rule, lines),
-        Compare::Le => push_side(alloc, fields, sets, linear, Side::Above, rule, lines),
-        Compare::Lt => push_side(alloc, fields, sets, linear, Side::AtLeast, rule, lines),
+    match test.linear.compare {
+        Compare::Ge => push_side(alloc, fields, test, Side::Below, rule, lines),
+        Compare::Gt => push_side(alloc, fields, test, Side::AtMost, rule, lines),
+        Compare::Le => push_side(alloc, fields, test, Side::Above, rule, lines),
+        Compare::Lt => push_side(alloc, fields, test, Side::AtLeast, rule, lines),
         Compare::Eq => Ok(()),
     }
 }
@@ -222,18 +241,18 @@ fn push_contrary(
 fn push_side(
     alloc: Global,
     fields: &SurveyShape,
-    sets: &[u64],
-    linear: &Linear,
+    test: &TestWithin,
     side: Side,
     rule: u32,
     lines: &mut Vec<RuleLine>,
 ) -> Result<(), OutOfMemory>
-    requires within { AreWithin sets.now (whole_sets fields.now) }
-    requires whole { MayAsk fields.now sets.now side }
-    ensures { OnOk result (lines.new.items ≡ joined_by lines.old.items rule (side_line fields.now sets.now linear.now side ∷ [])) }
+    requires within { AreWithin test.now.sets.now (whole_sets fields.now) }
+    requires whole { MayAsk fields.now test.now.sets.now side }
+    ensures { OnOk result (lines.new.items
+        ≡ joined_by lines.old.items rule (side_line fields.now test.now.sets.now test.now.linear.now side ∷ [])) }
 {
-    if have_codes(sets) {
-        let line = side_line(alloc, fields, sets, linear, side)?;
+    if have_codes(test.sets) {
+        let line = side_line(alloc, fields, test.sets, test.linear, side)?;
         lines.push(RuleLine { rule, line })?;
     }
     Ok(())
