@@ -1,5 +1,4 @@
-//! A pool and one of its readers as a source of systems, which is what the search and the giving of values
-//! ask.
+//! A pool and one of its readers as a source of systems, which is what the search asks.
 use crate::pool::Pool;
 use crate::reader::Reader;
 use edit_line::Edits;
