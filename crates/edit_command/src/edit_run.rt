@@ -32,11 +32,10 @@ use crate::edit_input::{EditInput, fetch_edit};
 use command_words::{ClassedWords, EditWords};
 use donor_measure::{Measure, Yardsticks};
 use edit_desk::{Desk, Printer};
-use edit_model::{Survey, Value};
+use edit_model::Value;
 use edit_release::{Release, edit_sheet};
 use foundation::OutOfMemory;
 use record_editing::Terms;
-use record_text::Sheet;
 use record_workers::Gate;
 use run_parts::{Refusal, Status, refuse, store_file, tell_all};
 use std::alloc::Global;
@@ -153,12 +152,7 @@ fn edit_and_store<'a, R: Threads + Wait + Sync, D: Desk, G: Gate>(
     ensures faults { D.faults desk.new ≡ faults_after result (D.faults desk.old) }
 {
     let input = fetch_edit(alloc, asked.rules, asked.records, class, desk)?;
-    let EditInput {
-        survey,
-        class_field,
-        sheet,
-    } = input;
-    let Ok(release) = release_of(rt, alloc, survey, sheet, asked, class_field, gate) else {
+    let Ok(release) = release_of(rt, alloc, input, asked, gate) else {
         return Err(Refusal::out_of_memory());
     };
     store_release(alloc, asked, &release, desk)?;
@@ -204,17 +198,20 @@ fn terms_asked(asked: &EditWords, class_field: Option<u32>) -> Terms
 fn release_of<R: Threads + Wait + Sync, G: Gate>(
     rt: &R,
     alloc: Global,
-    survey: Survey,
-    sheet: Sheet,
+    input: EditInput,
     asked: &EditWords,
-    class_field: Option<u32>,
     gate: &G,
 ) -> Result<Release, OutOfMemory>
-    requires read { (bytes : List ℕ) × IsSheet survey.fields bytes sheet }
-    requires plain { AllByRecursion HasPlainNumbers sheet.rows }
-    requires field { IfSome class_field (λ number. number < length survey.fields) }
-    ensures edit { IfOk result (IsReleaseOf survey sheet (terms_asked asked.now class_field) asked.now.workers) }
+    requires read { (bytes : List ℕ) × IsSheet input.survey.fields bytes input.sheet }
+    requires plain { AllByRecursion HasPlainNumbers input.sheet.rows }
+    requires field { IfSome input.class_field (λ number. number < length input.survey.fields) }
+    ensures edit { IfOk result (IsReleaseOf input.survey input.sheet (terms_asked asked.now input.class_field) asked.now.workers) }
 {
+    let EditInput {
+        survey,
+        class_field,
+        sheet,
+    } = input;
     let yardsticks = Yardsticks::of(&survey);
     let measure = Measure::new(&survey, move |field: u32, first: &Value, second: &Value| {
         yardsticks.distance(field, first, second)

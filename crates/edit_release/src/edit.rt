@@ -25,6 +25,7 @@ use proof_sharing::share_lines;
 use proof_text::write_proof;
 use pruned_rules::prune_rules;
 use record_editing::{Edited, Terms, edit_records};
+use record_pieces::Rest;
 use record_text::Sheet;
 use record_workers::Gate;
 use redundancy::Verdict;
@@ -71,40 +72,32 @@ pub fn edit_sheet<
         history,
         rest,
     } = edited;
-    release_of(
-        alloc,
-        &rest.survey,
-        &rest.sheet,
-        pruned.verdicts,
-        terms,
-        ends,
-        history,
-    )
+    release_of(alloc, &rest, pruned.verdicts, terms, ends, history)
 }
 
-// What is released of the records of a sheet, which are edited: the texts of all files and the summary. The
-// verdicts are those on the lines of the rules. The ends say what became of each record, in row order, and
-// the history has their claims. Nothing is searched or decided here.
-fn release_of(
+// What is released of the records of a sheet, which are edited: the texts of all files and the summary. `rest`
+// has the sheet and its survey. The verdicts are those on the lines of the rules. The ends say what became of
+// each record, in row order, and the history has their claims. Nothing is searched or decided here.
+fn release_of<F>(
     alloc: Global,
-    survey: &Survey,
-    sheet: &Sheet,
+    rest: &Rest<F>,
     verdicts: Vec<Verdict>,
     terms: Terms,
     ends: Vec<RowEnd>,
     history: Vec<Entry>,
 ) -> Result<Release, OutOfMemory>
-    requires read { (bytes : List ℕ) × IsSheet survey.now.fields bytes sheet.now }
+    requires read { (bytes : List ℕ) × IsSheet rest.now.survey.fields bytes rest.now.sheet }
     requires terms { AreTerms terms }
-    requires verdicts { verdicts.items ≡ rule_verdicts survey.now }
-    requires ends { AllZip (IsEndOf survey.now (kept_edits survey.now) terms.budget sheet.now.rows) sheet.now.rows ends.items }
-    requires say { AllZip (Says survey.now (kept_edits survey.now) terms.budget) sheet.now.rows ends.items }
-    requires donations { AreDonations survey.now sheet.now.rows terms ends.items history.items }
-    ensures guaranteed { IfOk result (HasGuarantee survey.now sheet.now terms) }
+    requires verdicts { verdicts.items ≡ rule_verdicts rest.now.survey }
+    requires ends { AllZip (IsEndOf rest.now.survey (kept_edits rest.now.survey) terms.budget rest.now.sheet.rows) rest.now.sheet.rows ends.items }
+    requires say { AllZip (Says rest.now.survey (kept_edits rest.now.survey) terms.budget) rest.now.sheet.rows ends.items }
+    requires donations { AreDonations rest.now.survey rest.now.sheet.rows terms ends.items history.items }
+    ensures guaranteed { IfOk result (HasGuarantee rest.now.survey rest.now.sheet terms) }
     ensures edit { IfOk result (λ release. (workers : ℕ) → (workers ≡ 1
-        → AreInOrder survey.now sheet.now.rows terms.class_field ends.items history.items)
-        → IsReleaseOf survey.now sheet.now terms workers release) }
+        → AreInOrder rest.now.survey rest.now.sheet.rows terms.class_field ends.items history.items)
+        → IsReleaseOf rest.now.survey rest.now.sheet terms workers release) }
 {
+    let Rest { survey, sheet, .. } = rest;
     let _fields = survey.fields(); // read for what it says: the survey is well formed
     let all = ends.as_slice();
     let reasons = reasons_text(alloc, sheet, survey, all)?;

@@ -31,6 +31,27 @@ pub struct Record<'a> {
     pub end: &'a RowEnd,
 }
 
+/// A changed field of a record: the record's values now, the field's number, and how the value there was
+/// found.
+#[derive(Clone, Copy)]
+struct ChangedField<'a> {
+    new: &'a Row,
+    field: u32,
+    how: How,
+}
+
+/// The texts of the line of a changed field, but for the cause: the record's number, the field's name with
+/// its text before and after, the donor's number, and how the value was found.
+#[derive(Clone, Copy)]
+struct ChangedLine<'a> {
+    number: &'a [u8],
+    name: &'a [u8],
+    before: &'a [u8],
+    after: &'a [u8],
+    donor: &'a [u8],
+    how: &'a [u8],
+}
+
 /// The bytes of the reasons file: its header, and then the lines of each record, in the records' order. A
 /// record that was given values has one for each changed field, in path order; one that was not has one.
 /// `ends` has what became of each record of the sheet.
@@ -137,45 +158,44 @@ fn push_changes(
     let fields = changed.as_slice();
     let hows = gift.how.as_slice();
     for place in 0..fields.len() {
-        push_change(
-            alloc,
-            writer,
-            survey,
-            layout,
-            row,
-            &gift.row,
-            fields[place],
-            hows[place],
-        )?;
+        let change = ChangedField {
+            new: &gift.row,
+            field: fields[place],
+            how: hows[place],
+        };
+        push_change(alloc, writer, survey, layout, row, &change)?;
     }
     Ok(())
 }
 
-// Writes the line of a changed field of the record `row`, whose values are now those of `new`. `how` says
-// how the one at this field was found.
+// Writes the line of a changed field of the record `row`.
 fn push_change(
     alloc: Global,
     writer: &mut RecordWriter,
     survey: &Survey,
     layout: &Layout,
     row: &Record,
-    new: &Row,
-    field: u32,
-    how: How,
+    change: &ChangedField,
 ) -> Result<(), OutOfMemory>
     requires layout { IsLayout survey.now.fields layout.now }
     requires width { length row.now.read.now ≡ layout.now.width }
-    requires new { IsRow survey.now.fields new.now }
-    requires field { field < length survey.now.fields }
+    requires new { IsRow survey.now.fields change.now.new.now }
+    requires field { change.now.field < length survey.now.fields }
     ensures { OnOk result
-        (writer.new ≡ writer.old ++ records_text (field_line survey.now.fields layout.now row.now new.now field how ∷ [])) }
+        (writer.new ≡ writer.old ++ records_text (field_line survey.now.fields layout.now row.now change.now ∷ [])) }
 {
     let number = number_text(alloc, row.number)?;
-    let after = text_at(alloc, survey, new, field)?;
+    let after = text_at(alloc, survey, change.new, change.field)?;
     let donor = donor_text(alloc, row.end.donor)?;
-    let name = name_of(survey, field);
-    let before = text_in(row.read, layout.column(field));
-    push_line(writer, &number, name, before, &after, &donor, how_text(how))
+    let line = ChangedLine {
+        number: &number,
+        name: name_of(survey, change.field),
+        before: text_in(row.read, layout.column(change.field)),
+        after: &after,
+        donor: &donor,
+        how: how_text(change.how),
+    };
+    push_line(writer, &line)
 }
 
 // The text that was read in a column, empty where there is no such column: a field of a panel's other file
@@ -190,21 +210,20 @@ fn text_in(texts: &Texts, column: usize) -> &[u8]
     }
 }
 
-// Writes a line of a changed field. Its columns have the record's number, the cause `changed`, and the
-// field's name with its text before and after. Then come the donor's number and how the value was found.
-fn push_line<'a>(
-    writer: &mut RecordWriter,
-    number: &'a [u8],
-    name: &'a [u8],
-    before: &'a [u8],
-    after: &'a [u8],
-    donor: &'a [u8],
-    how: &'a [u8],
-) -> Result<(), OutOfMemory>
-    ensures { OnOk result
-        (writer.new ≡ writer.old ++ records_text (line_texts number.now name.now before.now after.now donor.now how.now ∷ [])) }
+// Writes the line of a changed field, with the cause `changed`.
+fn push_line(writer: &mut RecordWriter, line: &ChangedLine) -> Result<(), OutOfMemory>
+    ensures { OnOk result (writer.new ≡ writer.old ++ records_text
+        (line_texts line.now.number.now line.now.name.now line.now.before.now line.now.after.now line.now.donor.now line.now.how.now ∷ [])) }
 {
-    writer.push_slices(&[number, b"changed", name, before, after, donor, how])
+    writer.push_slices(&[
+        line.number,
+        b"changed",
+        line.name,
+        line.before,
+        line.after,
+        line.donor,
+        line.how,
+    ])
 }
 
 // The number of the donor of this number, from 0, as it is told: from 1. An empty text where there is no

@@ -2,7 +2,7 @@
 //! says that each field has a column, and `IsEnd` that the values given are those of the path that was
 //! found. `records_text` is records as a CSV file has them, and `texts_from` the texts of a row from a
 //! column on.
-ghost use Rattle.std.specs.Prelude.{◌≡◌, ◌<◌, ◌≤◌, ◌++◌, ◌∷◌, [], ℕ, List, Some, IfOk, OnOk, length};
+ghost use Rattle.std.specs.Prelude.{◌≡◌, ◌<◌, ◌≤◌, ◌++◌, ◌∷◌, [], ℕ, List, Some, IfOk, IfSome, OnOk, length};
 ghost use Rattle.edit_model.specs.FieldSets.{has_number};
 ghost use Rattle.edit_model.specs.Rows.{IsRow};
 ghost use Rattle.record_text.specs.Sheets.{IsSheet};
@@ -10,7 +10,6 @@ ghost use Rattle.record_text.specs.Texts.{records_text};
 ghost use Rattle.edit_report.specs.Ends.{AreEnds, IsEnd};
 ghost use Rattle.edit_report.specs.Released.{column_text, released_text_of, released_texts, released_of, row_with, texts_from, given_text};
 ghost use Rattle.edit_report.specs.Layouts.{IsLayout};
-ghost use Rattle.edit_report.specs.inner.Columns.{column_at, layout_texts};
 
 use crate::changed::{changed_set, keeps_every_field, path_found};
 use crate::end::RowEnd;
@@ -20,6 +19,13 @@ use edit_model::{FieldSet, Row, Survey};
 use foundation::OutOfMemory;
 use record_text::{RecordWriter, Sheet, Texts};
 use std::alloc::Global;
+
+/// The values that a record has now, and the set of the fields at which they are new.
+#[derive(Clone, Copy)]
+struct NewValues<'a> {
+    row: &'a Row,
+    changed: FieldSet,
+}
 
 /// The bytes of the released file: the header as it was read, and then, in order, one row for each record
 /// that was given values. A changed field has the text of its new value, every other column the bytes that
@@ -45,7 +51,7 @@ pub fn released_text(
 }
 
 /// Writes the row of a record that was given values; nothing for one that was not. `read` has the texts of
-/// the record as it was read.
+/// the record as it was read. Where all fields are kept, these are written without a copy.
 pub fn push_released(
     alloc: Global,
     writer: &mut RecordWriter,
@@ -59,37 +65,14 @@ pub fn push_released(
     requires end { IsEnd survey.now.fields end.now }
     ensures { OnOk result (writer.new ≡ writer.old ++ records_text (released_of survey.now.fields layout.now.columns read.now end.now)) }
 {
-    match &end.gift {
-        None => Ok(()),
-        Some(gift) => {
-            let path = path_found(&end.proof.outcome);
-            push_row(alloc, writer, survey, layout, read, path, &gift.row)
-        }
-    }
-}
-
-// Writes the row of a record that has the values of `new` at the fields that the path changes. `read` has
-// its texts before. Where all fields are kept, these are written without a copy.
-fn push_row(
-    alloc: Global,
-    writer: &mut RecordWriter,
-    survey: &Survey,
-    layout: &Layout,
-    read: &Texts,
-    path: &[bool],
-    new: &Row,
-) -> Result<(), OutOfMemory>
-    requires layout { IsLayout survey.now.fields layout.now }
-    requires width { length read.now ≡ layout.now.width }
-    requires short { length path.now ≤ length survey.now.fields }
-    requires new { IsRow survey.now.fields new.now }
-    ensures { OnOk result
-        (writer.new ≡ writer.old ++ records_text (layout_texts survey.now.fields layout.now path.now new.now read.now ∷ [])) }
-{
+    let Some(gift) = &end.gift else {
+        return Ok(());
+    };
+    let path = path_found(&end.proof.outcome);
     if keeps_every_field(path) {
         return writer.push(read);
     }
-    let texts = released_texts(alloc, survey, layout, read, path, new)?;
+    let texts = released_texts(alloc, survey, layout, read, path, &gift.row)?;
     writer.push(&texts)
 }
 
@@ -127,60 +110,54 @@ pub fn row_texts(
     requires new { IsRow survey.now.fields new.now }
     ensures { IfOk result (λ texts. texts ≡ texts_from survey.now.fields layout.now.columns (has_number changed) new.now 0 read.now) }
 {
+    let values = NewValues { row: new, changed };
     let mut texts = Texts::new(alloc);
     for column in 0..layout.width() {
-        push_column(
-            alloc, &mut texts, survey, layout, read, changed, new, column,
-        )?;
+        let field = layout.field_at(column);
+        push_column(alloc, &mut texts, survey, &values, field, read.get(column))?;
     }
     Ok(texts)
 }
 
-// Appends the text of one column of a row that was `read`: a further column keeps its text, and a field has
-// what [`push_text`] says.
+// Appends the text of one column, of which `read` was read. A further column, which has no field, keeps
+// that text, and a field has what [`push_text`] says.
 fn push_column(
     alloc: Global,
     texts: &mut Texts,
     survey: &Survey,
-    layout: &Layout,
-    read: &Texts,
-    changed: FieldSet,
-    new: &Row,
-    column: usize,
+    values: &NewValues,
+    field: Option<usize>,
+    read: &[u8],
 ) -> Result<(), OutOfMemory>
-    requires layout { IsLayout survey.now.fields layout.now }
-    requires width { length read.now ≡ layout.now.width }
-    requires new { IsRow survey.now.fields new.now }
-    requires column { column < layout.now.width }
-    ensures { OnOk result (texts.new ≡ texts.old
-        ++ column_at survey.now.fields layout.now.columns changed new.now read.now column ∷ []) }
+    requires values { IsRow survey.now.fields values.now.row.now }
+    requires field { IfSome field (λ f. f < length survey.now.fields) }
+    ensures { OnOk result (texts.new
+        ≡ texts.old ++ column_text survey.now.fields (has_number values.now.changed) values.now.row.now field read.now ∷ []) }
 {
-    match layout.field_at(column) {
-        None => texts.push(read.get(column)),
-        Some(field) => push_text(alloc, texts, survey, changed, new, field, read.get(column)),
+    match field {
+        None => texts.push(read),
+        Some(field) => push_text(alloc, texts, survey, values, field, read),
     }
 }
 
-// Appends the text of the field's value in `new` where the field is changed, and else the one that was
-// read.
+// Appends the text of the field's value where it is new, and else the one that was read.
 fn push_text(
     alloc: Global,
     texts: &mut Texts,
     survey: &Survey,
-    changed: FieldSet,
-    new: &Row,
+    values: &NewValues,
     field: usize,
     read: &[u8],
 ) -> Result<(), OutOfMemory>
-    requires new { IsRow survey.now.fields new.now }
+    requires values { IsRow survey.now.fields values.now.row.now }
     requires field { field < length survey.now.fields }
     ensures { OnOk result (texts.new
-        ≡ texts.old ++ column_text survey.now.fields (has_number changed) new.now (Some field) read.now ∷ []) }
+        ≡ texts.old ++ column_text survey.now.fields (has_number values.now.changed) values.now.row.now (Some field) read.now ∷ []) }
 {
     let _fields = survey.fields(); // read for what it says: there are at most 64
     let field = field as u32;
-    if changed.has(field) {
-        texts.push(&text_at(alloc, survey, new, field)?)
+    if values.changed.has(field) {
+        texts.push(&text_at(alloc, survey, values.row, field)?)
     } else {
         texts.push(read)
     }

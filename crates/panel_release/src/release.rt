@@ -13,8 +13,8 @@ ghost use Rattle.panel_release.specs.PanelReleases.{IsAnswerAmong, IsPanelReleas
 ghost use Rattle.panel_release.specs.inner.Panels.{IsRead, TellsRows, both_at};
 
 use crate::panel::Panel;
-use crate::told::Told;
-use edit_model::{FieldSet, Row, Survey};
+use crate::told::{AnsweredRecord, Told};
+use edit_model::Row;
 use edit_normal::{RuleLine, normal_lines};
 use edit_report::Layout;
 use foundation::{OutOfMemory, Steps};
@@ -58,14 +58,12 @@ pub fn release_panel(alloc: Global, panel: &Panel, budget: u64) -> Result<PanelR
     let mut told = Told::start(alloc, panel.own, lines.len(), budget)?;
     for row_no in 0..panel.own.len() {
         let answer = answer_at(alloc, panel, &table, &lines, row_no, budget)?;
-        told.tell_record(
-            alloc,
-            panel.survey,
-            &layout,
-            row_no,
-            panel.own.raw(row_no),
+        let record = AnsweredRecord {
+            number: row_no,
+            read: panel.own.raw(row_no),
             answer,
-        )?;
+        };
+        told.tell_record(alloc, panel.survey, &layout, record)?;
     }
     told.end(alloc)
 }
@@ -128,37 +126,29 @@ fn answer_at(
     ensures end { IfOk result (λ answer. IsEnd panel.now.survey.fields (end_of answer)) }
 {
     let row = both_row(alloc, panel, table, row_no)?;
-    answer_for::<Brand>(
-        alloc,
-        panel.survey,
-        lines,
-        &row,
-        panel.set,
-        budget,
-        Blank::new(1),
-    )
+    answer_for::<Brand>(alloc, panel, lines, &row, budget, Blank::new(1))
 }
 
-// What becomes of a record with these values, whose fixed fields keep theirs. `blank` starts a counter of
-// steps for this call, which nobody reads. In the contract, `IsAnswerAmong` says that this is the answer,
-// and that what it says of corrections is so and shown.
+// What becomes of a record of the panel with these values, whose last fields keep theirs. `blank` starts a
+// counter of steps for this call, which nobody reads. In the contract, `IsAnswerAmong` says that this is
+// the answer, and that what it says of corrections is so and shown.
 fn answer_for<L: Ledger>(
     alloc: Global,
-    survey: &Survey,
+    panel: &Panel,
     lines: &[RuleLine],
     row: &Row,
-    fixed: FieldSet,
     budget: u64,
     blank: Blank,
 ) -> Result<Linked, OutOfMemory>
     requires name { blank.name ≡ L.name }
     requires parts { blank.parts ≡ L.parts }
     requires counts { 0 < blank.parts }
-    requires lines { map (λ l. l.line) lines.now ≡ normal_lines_of survey.now }
-    requires row { IsRow survey.now.fields row.now }
-    ensures answer { IfOk result (IsAnswerAmong survey.now fixed budget row.now) }
-    ensures end { IfOk result (λ answer. IsEnd survey.now.fields (end_of answer)) }
+    requires lines { map (λ l. l.line) lines.now ≡ normal_lines_of panel.now.survey }
+    requires row { IsRow panel.now.survey.fields row.now }
+    ensures answer { IfOk result (IsAnswerAmong panel.now.survey panel.now.set budget row.now) }
+    ensures end { IfOk result (λ answer. IsEnd panel.now.survey.fields (end_of answer)) }
 {
+    let fixed = panel.set;
     let mut steps = Steps::<L>::start(blank);
-    link(alloc, survey, lines, row, fixed, budget, &mut steps)
+    link(alloc, panel.survey, lines, row, fixed, budget, &mut steps)
 }

@@ -36,6 +36,14 @@ pub(crate) struct Told {
     counts: Counts,
 }
 
+/// A record as it is told of: its number, from 0, the texts that were read, and what becomes of it.
+#[derive(Drop)]
+pub(crate) struct AnsweredRecord<'a> {
+    pub(crate) number: u32,
+    pub(crate) read: &'a Texts,
+    pub(crate) answer: Linked,
+}
+
 impl Told {
     /// What is told before the first record: the headers of both files, and the lines of the proof in
     /// front of the records'. The released file has the header of `own`. `lines` is how many lines the
@@ -61,28 +69,27 @@ impl Told {
         })
     }
 
-    /// Tells what became of one record more, in the three files and in the counts. `row_no` is its number,
-    /// from 0, and `read` are its texts as they were read. No part of the answer is copied.
+    /// Tells what became of one record more, in the three files and in the counts. Where it was given values,
+    /// these are those of its path (`IsEnd`). No part of the answer is copied.
     pub(crate) fn tell_record(
         &mut self,
         alloc: Global,
         survey: &Survey,
         layout: &Layout,
-        row_no: u32,
-        read: &Texts,
-        answer: Linked,
+        record: AnsweredRecord,
     ) -> Result<(), OutOfMemory>
         requires layout { IsLayout survey.now.fields layout.now }
-        requires width { length read.now ≡ layout.now.width }
-        requires end { IsEnd survey.now.fields (end_of answer) }
+        requires width { length record.read.now ≡ layout.now.width }
+        requires end { IsEnd survey.now.fields (end_of record.answer) }
         requires few { AreFew self.old.counts }
         requires more { self.old.counts.records < most_records }
-        ensures told { OnOk result (TellsOne survey.now.fields layout.now.columns row_no read.now answer self.old self.new) }
-        ensures counts { OnOk result (CountsOne survey.now.fields (end_of answer) self.old.counts self.new.counts) }
+        ensures told { OnOk result (TellsOne survey.now.fields layout.now.columns record.entry.number record.entry.read.now
+            record.entry.answer self.old self.new) }
+        ensures counts { OnOk result (CountsOne survey.now.fields (end_of record.entry.answer) self.old.counts self.new.counts) }
         ensures few { OnOk result (AreFew self.new.counts) }
     {
-        let resolution = resolution_of(survey, &answer);
-        self.write_answer(alloc, survey, layout, row_no, read, answer)?;
+        let resolution = resolution_of(survey, &record.answer);
+        self.write_answer(alloc, survey, layout, record)?;
         self.counts.add(resolution);
         Ok(())
     }
@@ -117,21 +124,25 @@ impl Told {
         alloc: Global,
         survey: &Survey,
         layout: &Layout,
-        row_no: u32,
-        read: &Texts,
-        answer: Linked,
+        record: AnsweredRecord,
     ) -> Result<(), OutOfMemory>
         requires layout { IsLayout survey.now.fields layout.now }
-        requires width { length read.now ≡ layout.now.width }
-        requires end { IsEnd survey.now.fields (end_of answer) }
-        ensures told { OnOk result (TellsOne survey.now.fields layout.now.columns row_no read.now answer self.old self.new) }
+        requires width { length record.read.now ≡ layout.now.width }
+        requires end { IsEnd survey.now.fields (end_of record.answer) }
+        ensures told { OnOk result (TellsOne survey.now.fields layout.now.columns record.entry.number record.entry.read.now
+            record.entry.answer self.old self.new) }
         ensures counts { OnOk result (self.new.counts ≡ self.old.counts) }
     {
+        let AnsweredRecord {
+            number,
+            read,
+            answer,
+        } = record;
         match answer {
-            Linked::NoLast => self.write_cause(alloc, row_no, b"nolast", b"nolast\n"),
+            Linked::NoLast => self.write_cause(alloc, number, b"nolast", b"nolast\n"),
             Linked::NoCorrection { cert } => {
                 let text = row_text(alloc, &proof_of_none(cert))?;
-                self.write_cause(alloc, row_no, b"nocorrection", &text)
+                self.write_cause(alloc, number, b"nocorrection", &text)
             }
             Linked::Change {
                 path,
@@ -141,7 +152,7 @@ impl Told {
             } => {
                 let end = changed_end(path, weight, cert, gift);
                 let row = Record {
-                    number: row_no,
+                    number,
                     read,
                     end: &end,
                 };
@@ -150,7 +161,7 @@ impl Told {
             Linked::Stopped(proof) => {
                 let end = stopped_end(proof);
                 let row = Record {
-                    number: row_no,
+                    number,
                     read,
                     end: &end,
                 };

@@ -5,5 +5,5 @@ use Rattle.edit_report.proofs.released.row_texts.Given as goal
 
 abbrev pub invariant-loop-column : goal.invariant-loop-column
 invariant-loop-column l =
-    l.texts ++ texts_from l.survey.fields l.layout.columns (has_number l.changed) l.new l.column (drop l.column l.read)
-    ≡ texts_from l.survey.fields l.layout.columns (has_number l.changed) l.new 0 l.read
+    l.texts ++ texts_from l.survey.fields l.layout.columns (has_number l.fn.changed) l.new l.column (drop l.column l.read)
+    ≡ texts_from l.survey.fields l.layout.columns (has_number l.fn.changed) l.new 0 l.read

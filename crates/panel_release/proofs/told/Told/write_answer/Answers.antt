@@ -11,11 +11,13 @@ pub returns-in_ok-text-in-NoCorrection-clause-told : goal.returns-in_ok-text-in-
 returns-in_ok-text-in-NoCorrection-clause-told c =
     let fields = c.args.survey.now.fields in
     let columns = c.args.layout.now.columns in
+    let number = c.args.record.number in
+    let read = c.args.record.read.now in
     let before = c.args.self.now in
     let after = c.write_cause-in-NoCorrection.new.self in
     let cert = c.in-NoCorrection.cert in
     let is = c.deref.ensures.value ∙ c.in_ok-text-in-NoCorrection.ensures.text ∙ ap (λ (row : RowProof). row_text row) c.proof_of_none.ensures in
-    subst (λ (a : Linked). OnOk c.write_cause-in-NoCorrection.result (TellsOne fields columns c.args.row_no c.args.read.now a before after))
+    subst (λ (a : Linked). OnOk c.write_cause-in-NoCorrection.result (TellsOne fields columns number read a before after))
     (sym c.in-NoCorrection.is)
-    (on_ok_weaker c.write_cause-in-NoCorrection.result (no-correction-told fields columns c.args.row_no c.args.read.now before after cert c.deref.result.now is)
+    (on_ok_weaker c.write_cause-in-NoCorrection.result (no-correction-told fields columns number read before after cert c.deref.result.now is)
     c.write_cause-in-NoCorrection.ensures.told)
