@@ -19,6 +19,16 @@ use edit_model::{Row, Survey};
 use foundation::OutOfMemory;
 use std::alloc::Global;
 
+/// What all lines of one list are tried with: the survey and the lines, the record without values, at which
+/// the walk tests lines, and the most work for one line.
+#[derive(Clone, Copy)]
+struct Task<'a> {
+    survey: &'a Survey,
+    lines: &'a [Line],
+    row: &'a Row,
+    budget: u64,
+}
+
 /// The verdict on each line, in the order of the lines. They are tried from the last to the first, and an
 /// equality is kept. Another line is dropped where the lines that are left then refute its negation, by
 /// elimination of all fields. `budget` is the most work that this may take for one line. The lines are over
@@ -38,12 +48,18 @@ pub fn prune(
 {
     read_lines(lines);
     let row = record_without_values(alloc, survey)?;
+    let task = Task {
+        survey,
+        lines,
+        row: &row,
+        budget,
+    };
     let mut left = vec![in alloc; true; lines.len()]?;
     let mut verdicts = Vec::new(alloc);
     let mut place = lines.len();
     while place > 0 {
         place -= 1;
-        let verdict = try_line(alloc, survey, &row, lines, &mut left, place, budget)?;
+        let verdict = try_line(alloc, &task, &mut left, place)?;
         verdicts.insert(0, verdict)?;
     }
     let _well_formed = survey.fields(); // read for what it says: each categorical field has a code
@@ -62,57 +78,51 @@ fn read_lines(lines: &[Line])
 }
 
 // The verdict on the line at the place, by the other lines that are left. `left` says of each line whether
-// it is left; one that is dropped is left no more. `row` is the record without values, at which the walk
-// tests lines.
+// it is left; one that is dropped is left no more.
 fn try_line(
     alloc: Global,
-    survey: &Survey,
-    row: &Row,
-    lines: &[Line],
+    task: &Task,
     left: &mut Vec<bool>,
     place: usize,
-    budget: u64,
 ) -> Result<Verdict, OutOfMemory>
-    requires over { AreOver (shape_of survey.now.fields) lines.now }
-    requires values { row.now ≡ no_values survey.now.fields }
-    requires row { IsRow survey.now.fields row.now }
-    requires count { length left.old.items ≡ length lines.now }
-    requires place { place < length lines.now }
-    ensures verdict { IfOk result
-        (λ verdict. IsVerdict survey.now lines.now budget place (slice_set left.old.items place false) verdict) }
+    requires over { AreOver (shape_of task.now.survey.now.fields) task.now.lines.now }
+    requires values { task.now.row.now ≡ no_values task.now.survey.now.fields }
+    requires row { IsRow task.now.survey.now.fields task.now.row.now }
+    requires count { length left.old.items ≡ length task.now.lines.now }
+    requires place { place < length task.now.lines.now }
+    ensures verdict { IfOk result (λ verdict. IsVerdict
+        task.now.survey.now task.now.lines.now task.now.budget place (slice_set left.old.items place false) verdict) }
     ensures left { IfOk result (λ verdict. left.new.items ≡ slice_set left.old.items place (keeps_line verdict)) }
 {
     left[place] = false;
-    let verdict = verdict_on(alloc, survey, row, lines, left, place, budget)?;
+    let verdict = verdict_on(alloc, task, left, place)?;
     left[place] = is_kept(&verdict);
     Ok(verdict)
 }
 
 // The verdict on the line at the place, by the lines of which `left` says that they are left; it is none of
-// these. An equality is kept; of another line the walk tells. `row` is the record without values.
+// these. An equality is kept; of another line the walk tells.
 fn verdict_on(
     alloc: Global,
-    survey: &Survey,
-    row: &Row,
-    lines: &[Line],
+    task: &Task,
     left: &[bool],
     place: usize,
-    budget: u64,
 ) -> Result<Verdict, OutOfMemory>
-    requires over { AreOver (shape_of survey.now.fields) lines.now }
-    requires values { row.now ≡ no_values survey.now.fields }
-    requires row { IsRow survey.now.fields row.now }
-    requires count { length left.now ≡ length lines.now }
-    requires place { place < length lines.now }
-    ensures { IfOk result (λ verdict. IsVerdict survey.now lines.now budget place left.now verdict) }
+    requires over { AreOver (shape_of task.now.survey.now.fields) task.now.lines.now }
+    requires values { task.now.row.now ≡ no_values task.now.survey.now.fields }
+    requires row { IsRow task.now.survey.now.fields task.now.row.now }
+    requires count { length left.now ≡ length task.now.lines.now }
+    requires place { place < length task.now.lines.now }
+    ensures { IfOk result (λ verdict. IsVerdict task.now.survey.now task.now.lines.now task.now.budget place left.now verdict) }
 {
-    let _well_formed = survey.fields(); // read for what it says
+    let _well_formed = task.survey.fields(); // read for what it says
+    let lines = task.lines;
     let line = &lines[place];
     if line.relation().is_equal() {
         return Ok(Verdict::Kept(Why::Equality));
     }
     let base = base_of(alloc, lines, left, line)?;
-    let verdict = verdict_of(alloc, survey, row, base, budget)?;
+    let verdict = verdict_of(alloc, task.survey, task.row, base, task.budget)?;
     Ok(verdict)
 }
 
