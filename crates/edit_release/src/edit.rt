@@ -89,7 +89,8 @@ fn release_of<F>(
     requires read { (bytes : List ℕ) × IsSheet rest.now.survey.fields bytes rest.now.sheet }
     requires terms { AreTerms terms }
     requires verdicts { verdicts.items ≡ rule_verdicts rest.now.survey }
-    requires ends { AllZip (IsEndOf rest.now.survey (kept_edits rest.now.survey) terms.budget rest.now.sheet.rows) rest.now.sheet.rows ends.items }
+    requires ends { AllZip (IsEndOf rest.now.survey (kept_edits rest.now.survey) terms.budget rest.now.sheet.rows)
+        rest.now.sheet.rows ends.items }
     requires say { AllZip (Says rest.now.survey (kept_edits rest.now.survey) terms.budget) rest.now.sheet.rows ends.items }
     requires donations { AreDonations rest.now.survey rest.now.sheet.rows terms ends.items history.items }
     ensures guaranteed { IfOk result (HasGuarantee rest.now.survey rest.now.sheet terms) }

@@ -213,7 +213,8 @@ fn text_in(texts: &Texts, column: usize) -> &[u8]
 // Writes the line of a changed field, with the cause `changed`.
 fn push_line(writer: &mut RecordWriter, line: &ChangedLine) -> Result<(), OutOfMemory>
     ensures { OnOk result (writer.new ≡ writer.old ++ records_text
-        (line_texts line.now.number.now line.now.name.now line.now.before.now line.now.after.now line.now.donor.now line.now.how.now ∷ [])) }
+        (line_texts line.now.number.now line.now.name.now line.now.before.now line.now.after.now line.now.donor.now
+        line.now.how.now ∷ [])) }
 {
     writer.push_slices(&[
         line.number,
