@@ -29,6 +29,15 @@ pub(crate) struct RowFault {
     pub(crate) why: Why,
 }
 
+/// What a proof says of a record that is changed: the path of its change, the weight of that, and the tree
+/// that shows that no change of less weight would do.
+#[derive(Clone, Copy)]
+struct SaidChange<'a> {
+    path: &'a Path,
+    weight: u64,
+    cert: &'a Cert,
+}
+
 /// The first fault of what is said of a record, or None where it is right. That a budget was passed, or
 /// that a number left the range, is taken on trust. Of these no more is checked than that the numbers fit.
 pub(crate) fn row_fault(
@@ -44,10 +53,17 @@ pub(crate) fn row_fault(
     ensures within { IfOk result (IsWithin (length (row_lines said.now))) }
 {
     match &said.outcome {
-        Outcome::Change { path, weight, cert } => match said.gift {
-            None => change_fault(alloc, checking, files, path, *weight, cert),
-            Some(fault) => gift_fault(alloc, checking, files, path, *weight, cert, fault),
-        },
+        Outcome::Change { path, weight, cert } => {
+            let change = SaidChange {
+                path,
+                weight: *weight,
+                cert,
+            };
+            match said.gift {
+                None => change_fault(alloc, checking, files, &change),
+                Some(fault) => gift_fault(alloc, checking, files, &change, fault),
+            }
+        }
         Outcome::Budget { work, .. } => Ok(head_fault(*work <= checking.budget)),
         Outcome::Overflow { path, event } => {
             Ok(head_fault(event_exists(checking.survey, path, *event)))
@@ -64,23 +80,23 @@ fn change_fault(
     alloc: Global,
     checking: &Checking,
     files: &RowAt,
-    path: &Path,
-    weight: u64,
-    cert: &Cert,
+    change: &SaidChange,
 ) -> Result<Option<RowFault>, OutOfMemory>
     requires checking { IsChecking checking.now }
     requires files { FitsFiles checking.now files.now }
-    requires few { length (change_lines_in None path.now weight cert.now.leaves) < 2 ^ 64 }
-    ensures found { IfOk result (FindsSaid (rules_in checking.now) (files_in files.now) (Change path.now weight cert.now) None) }
-    ensures within { IfOk result (IsWithin (length (change_lines_in None path.now weight cert.now.leaves))) }
+    requires few { length (change_lines_in None change.now.path.now change.now.weight change.now.cert.now.leaves) < 2 ^ 64 }
+    ensures found { IfOk result (FindsSaid (rules_in checking.now) (files_in files.now)
+        (Change change.now.path.now change.now.weight change.now.cert.now) None) }
+    ensures within { IfOk result
+        (IsWithin (length (change_lines_in None change.now.path.now change.now.weight change.now.cert.now.leaves))) }
 {
-    match change_path_fault(alloc, checking, files, path, weight, cert)? {
+    match change_path_fault(alloc, checking, files, change)? {
         Some(offset) => Ok(Some(RowFault {
             offset,
             why: Why::Cert,
         })),
         None => {
-            if has_right_row(alloc, checking, files, path.letters())? {
+            if has_right_row(alloc, checking, files, change.path.letters())? {
                 Ok(None)
             } else {
                 Ok(Some(RowFault {
@@ -98,18 +114,17 @@ fn gift_fault(
     alloc: Global,
     checking: &Checking,
     files: &RowAt,
-    path: &Path,
-    weight: u64,
-    cert: &Cert,
+    change: &SaidChange,
     fault: GiftFault,
 ) -> Result<Option<RowFault>, OutOfMemory>
     requires checking { IsChecking checking.now }
     requires files { FitsFiles checking.now files.now }
-    requires few { 1 + length (flat_map leaf_lines cert.now.leaves) < 2 ^ 64 }
-    ensures found { IfOk result (FindsSaid (rules_in checking.now) (files_in files.now) (Change path.now weight cert.now) (Some fault)) }
-    ensures within { IfOk result (IsWithin (1 + length (flat_map leaf_lines cert.now.leaves))) }
+    requires few { 1 + length (flat_map leaf_lines change.now.cert.now.leaves) < 2 ^ 64 }
+    ensures found { IfOk result (FindsSaid (rules_in checking.now) (files_in files.now)
+        (Change change.now.path.now change.now.weight change.now.cert.now) (Some fault)) }
+    ensures within { IfOk result (IsWithin (1 + length (flat_map leaf_lines change.now.cert.now.leaves))) }
 {
-    match path_fault(alloc, checking, files, path, weight, cert)? {
+    match path_fault(alloc, checking, files, change)? {
         Some(offset) => Ok(Some(RowFault {
             offset,
             why: Why::Cert,
@@ -124,20 +139,20 @@ fn change_path_fault(
     alloc: Global,
     checking: &Checking,
     files: &RowAt,
-    path: &Path,
-    weight: u64,
-    cert: &Cert,
+    change: &SaidChange,
 ) -> Result<Option<u64>, OutOfMemory>
     requires checking { IsChecking checking.now }
     requires files { FitsFiles checking.now files.now }
-    requires few { length (change_lines_in None path.now weight cert.now.leaves) < 2 ^ 64 }
-    ensures found { IfOk result (FindsInChange (rules_in checking.now) (files_in files.now) path.now weight cert.now.leaves) }
-    ensures within { IfOk result (IsAmong (length (change_lines_in None path.now weight cert.now.leaves))) }
+    requires few { length (change_lines_in None change.now.path.now change.now.weight change.now.cert.now.leaves) < 2 ^ 64 }
+    ensures found { IfOk result (FindsInChange (rules_in checking.now) (files_in files.now)
+        change.now.path.now change.now.weight change.now.cert.now.leaves) }
+    ensures within { IfOk result
+        (IsAmong (length (change_lines_in None change.now.path.now change.now.weight change.now.cert.now.leaves))) }
 {
-    if weight == 0 {
+    if change.weight == 0 {
         Ok(None)
     } else {
-        path_fault(alloc, checking, files, path, weight, cert)
+        path_fault(alloc, checking, files, change)
     }
 }
 
@@ -147,18 +162,17 @@ fn path_fault(
     alloc: Global,
     checking: &Checking,
     files: &RowAt,
-    path: &Path,
-    weight: u64,
-    cert: &Cert,
+    change: &SaidChange,
 ) -> Result<Option<u64>, OutOfMemory>
     requires checking { IsChecking checking.now }
     requires files { FitsFiles checking.now files.now }
-    requires few { 1 + length (flat_map leaf_lines cert.now.leaves) < 2 ^ 64 }
-    ensures found { IfOk result (FindsInCert (rules_in checking.now) (files_in files.now) path.now weight cert.now.leaves) }
-    ensures within { IfOk result (IsAmong (1 + length (flat_map leaf_lines cert.now.leaves))) }
+    requires few { 1 + length (flat_map leaf_lines change.now.cert.now.leaves) < 2 ^ 64 }
+    ensures found { IfOk result (FindsInCert (rules_in checking.now) (files_in files.now)
+        change.now.path.now change.now.weight change.now.cert.now.leaves) }
+    ensures within { IfOk result (IsAmong (1 + length (flat_map leaf_lines change.now.cert.now.leaves))) }
 {
-    if is_change(checking.survey, files.row, path, weight) {
-        tree_fault(alloc, checking, files, cert, Some(weight))
+    if is_change(checking.survey, files.row, change.path, change.weight) {
+        tree_fault(alloc, checking, files, change.cert, Some(change.weight))
     } else {
         Ok(Some(0))
     }
