@@ -3,8 +3,8 @@
 //!
 //! In contracts `IsFaultAt` says that the answer is the first fault, or that there is none. `IsAmong` says
 //! that the fault stands on one of the lines of what is checked. `AreOver` says that lines are over the
-//! survey's fields. `IsCounted` says that 64 bits count the lines of the proof. `row` is a record without
-//! values. `lines` and `left` are the same after each call, unless memory is refused.
+//! survey's fields. `IsCounted` says that 64 bits count the lines of the proof. `lines` and `left` are the
+//! same after each call, unless memory is refused.
 ghost use Rattle.std.specs.Prelude.{◌≡◌, ◌<◌, ◌+◌, ◌^◌, IfOk, OnOk, Some, is_none, length, map};
 ghost use Rattle.std.specs.List.{flat_map};
 ghost use Rattle.edit_model.specs.Rows.{IsRow};
@@ -24,6 +24,13 @@ use edit_model::{FieldSet, Row, Survey};
 use foundation::{OutOfMemory, Sequence};
 use proof_text::ProofFile;
 use std::alloc::Global;
+
+/// A survey and its record without values, by which refutations are checked: their steps keep no field.
+#[derive(Clone, Copy)]
+struct EmptyRecord<'a> {
+    survey: &'a Survey,
+    row: &'a Row,
+}
 
 /// The number, from 1, of the first line of the proof whose verdict on a line of the rules is not right, or
 /// None. The first verdict stands on line 4, behind the version, the limits and the count of verdicts.
@@ -65,12 +72,11 @@ fn verdicts_fault(
     ensures lines { OnOk result (lines.new.items ≡ lines.old.items) }
 {
     let row = record_without_values(alloc, survey)?;
+    let empty = EmptyRecord { survey, row: &row };
     let mut left = kept_flags(alloc, verdicts)?;
     let mut offset = 0;
     for (place, verdict) in verdicts.iter().enumerate() {
-        if let Some(behind) = verdict_fault(
-            alloc, survey, &row, lines, &mut left, place, verdict,
-        )? {
+        if let Some(behind) = verdict_fault(alloc, &empty, lines, &mut left, place, verdict)? {
             return Ok(Some(offset + behind));
         }
         left[place] = true;
@@ -98,18 +104,17 @@ pub(crate) fn kept_flags(
 // which lines the refutation may use.
 fn verdict_fault(
     alloc: Global,
-    survey: &Survey,
-    row: &Row,
+    empty: &EmptyRecord,
     lines: &mut Vec<Line>,
     left: &mut Vec<bool>,
     place: usize,
     verdict: &Option<Sequence<Step>>,
 ) -> Result<Option<u64>, OutOfMemory>
-    requires row { IsRow survey.now.fields row.now }
-    requires over { AreOver (shape_of survey.now.fields) lines.old.items }
+    requires row { IsRow empty.now.survey.now.fields empty.now.row.now }
+    requires over { AreOver (shape_of empty.now.survey.now.fields) lines.old.items }
     requires each { length left.old.items ≡ length lines.old.items }
     requires place { place < length lines.old.items }
-    ensures found { IfOk result (IsFaultAt survey.now lines.old.items left.old.items place row.now verdict.now) }
+    ensures found { IfOk result (IsFaultAt empty.now.survey.now lines.old.items left.old.items place empty.now.row.now verdict.now) }
     ensures within { IfOk result (IsAmong (length (verdict_lines verdict.now))) }
     ensures lines { OnOk result (lines.new.items ≡ lines.old.items) }
     ensures left { OnOk result (left.new.items ≡ left.old.items) }
@@ -120,7 +125,7 @@ fn verdict_fault(
             if lines[place].relation().is_equal() {
                 return Ok(Some(0));
             }
-            refutation_fault(alloc, survey, row, lines, left, place, steps.as_slice())
+            refutation_fault(alloc, empty, lines, left, place, steps.as_slice())
         }
     }
 }
@@ -130,19 +135,18 @@ fn verdict_fault(
 // off again.
 fn refutation_fault(
     alloc: Global,
-    survey: &Survey,
-    row: &Row,
+    empty: &EmptyRecord,
     lines: &mut Vec<Line>,
     left: &mut Vec<bool>,
     place: usize,
     steps: &[Step],
 ) -> Result<Option<u64>, OutOfMemory>
-    requires row { IsRow survey.now.fields row.now }
-    requires over { AreOver (shape_of survey.now.fields) lines.old.items }
+    requires row { IsRow empty.now.survey.now.fields empty.now.row.now }
+    requires over { AreOver (shape_of empty.now.survey.now.fields) lines.old.items }
     requires each { length left.old.items ≡ length lines.old.items }
     requires place { place < length lines.old.items }
     requires not_equal { IsApartAt lines.old.items place }
-    ensures found { IfOk result (IsFaultAt survey.now lines.old.items left.old.items place row.now (Some steps.now)) }
+    ensures found { IfOk result (IsFaultAt empty.now.survey.now lines.old.items left.old.items place empty.now.row.now (Some steps.now)) }
     ensures within { IfOk result (IsAmong (1 + length steps.now)) }
     ensures lines { OnOk result (lines.new.items ≡ lines.old.items) }
     ensures left { OnOk result (left.new.items ≡ left.old.items) }
@@ -151,7 +155,7 @@ fn refutation_fault(
     let mut negation = lines[place].negation(alloc)?;
     lines.append(&mut negation)?;
     left.resize(lines.len(), true)?;
-    let found = steps_fault(alloc, survey, row, lines, left, steps)?;
+    let found = steps_fault(alloc, empty, lines, left, steps)?;
     lines.truncate(count);
     left.truncate(count);
     Ok(found)
@@ -159,27 +163,26 @@ fn refutation_fault(
 
 // How many lines behind the one that drops a line the first fault of these steps is, or None. It is 0
 // where there are no steps, or where some point meets what they prove. `given` has the negation of the
-// dropped line last, and `usable` says which lines a step may name. `row` has no values, and no field of
-// it is kept.
+// dropped line last, and `usable` says which lines a step may name.
 fn steps_fault(
     alloc: Global,
-    survey: &Survey,
-    row: &Row,
+    empty: &EmptyRecord,
     given: &[Line],
     usable: &[bool],
     steps: &[Step],
 ) -> Result<Option<u64>, OutOfMemory>
-    requires row { IsRow survey.now.fields row.now }
-    requires over { AreOver (shape_of survey.now.fields) given.now }
+    requires row { IsRow empty.now.survey.now.fields empty.now.row.now }
+    requires over { AreOver (shape_of empty.now.survey.now.fields) given.now }
     requires lists { length given.now ≡ length usable.now }
-    ensures found { IfOk result (λ found. found ≡ refutation_fault (premises_without survey.now given.now usable.now row.now) steps.now) }
+    ensures found { IfOk result (λ found. found
+        ≡ refutation_fault (premises_without empty.now.survey.now given.now usable.now empty.now.row.now) steps.now) }
     ensures within { IfOk result (IsAmong (1 + length steps.now)) }
 {
     if steps.is_empty() {
         return Ok(Some(0));
     }
     let kept = FieldSet::empty();
-    match check_steps(alloc, survey, given, usable, row, kept, steps) {
+    match check_steps(alloc, empty.survey, given, usable, empty.row, kept, steps) {
         Ok(proved) => Ok(if proved.is_absurd() { None } else { Some(0) }),
         Err(StepsFault::Bad { place }) => Ok(Some(place + 1)),
         Err(StepsFault::OutOfMemory) => Err(OutOfMemory),
