@@ -29,6 +29,13 @@ use foundation::Sequence;
 use proof_grammar::{Lines, ProofFault, RunLimits, Stop, Words, settle};
 use std::alloc::Global;
 
+/// What the first two lines of a proof file tell: its version, and the limits of the run that it is of.
+#[derive(Drop)]
+struct Preamble {
+    version: u32,
+    limits: RunLimits,
+}
+
 /// The proof that the lines spell up to the line `end`. The caller looks whether something stands behind
 /// that. The trees of the rows are not held.
 pub(super) fn read_file<'a>(
@@ -51,7 +58,7 @@ fn read_behind_version<'a>(
     ensures { Reads result lines.old lines.new (behind_version version lines.old.left) }
 {
     let limits = next_limits(lines)?;
-    read_behind_limits(alloc, lines, version, limits)
+    read_behind_limits(alloc, lines, Preamble { version, limits })
 }
 
 // Reads the verdicts and all that follows them. The parts before are read already, and the answer is the
@@ -59,13 +66,12 @@ fn read_behind_version<'a>(
 fn read_behind_limits<'a>(
     alloc: Global,
     lines: &mut Lines<'a>,
-    version: u32,
-    limits: RunLimits,
+    preamble: Preamble,
 ) -> Result<ProofFile<'a>, ProofFault>
-    ensures { Reads result lines.old lines.new (lists_reading version limits lines.old.left) }
+    ensures { Reads result lines.old lines.new (lists_reading preamble.version preamble.limits lines.old.left) }
 {
     let verdicts = next_counted_parts(alloc, lines, None, b"lines")?;
-    read_behind_verdicts(alloc, lines, version, limits, verdicts)
+    read_behind_verdicts(alloc, lines, preamble, verdicts)
 }
 
 // Reads the table, if the file has one, and all that follows it. The parts before are read already, and
@@ -73,14 +79,13 @@ fn read_behind_limits<'a>(
 fn read_behind_verdicts<'a>(
     alloc: Global,
     lines: &mut Lines<'a>,
-    version: u32,
-    limits: RunLimits,
+    preamble: Preamble,
     verdicts: Sequence<Option<Sequence<Step>>>,
 ) -> Result<ProofFile<'a>, ProofFault>
-    ensures { Reads result lines.old lines.new (behind_verdicts version limits verdicts lines.old.left) }
+    ensures { Reads result lines.old lines.new (behind_verdicts preamble.version preamble.limits verdicts lines.old.left) }
 {
-    let table = next_table(alloc, lines, has_table(version))?;
-    read_behind_table(alloc, lines, version, limits, verdicts, table)
+    let table = next_table(alloc, lines, has_table(preamble.version))?;
+    read_behind_table(alloc, lines, preamble, verdicts, table)
 }
 
 // Reads the rows and all that follows them. The parts before are read already, and the answer is the proof
@@ -88,16 +93,15 @@ fn read_behind_verdicts<'a>(
 fn read_behind_table<'a>(
     alloc: Global,
     lines: &mut Lines<'a>,
-    version: u32,
-    limits: RunLimits,
+    preamble: Preamble,
     verdicts: Sequence<Option<Sequence<Step>>>,
     table: Sequence<Step>,
 ) -> Result<ProofFile<'a>, ProofFault>
-    ensures { Reads result lines.old lines.new (rows_reading version limits verdicts table lines.old.left) }
+    ensures { Reads result lines.old lines.new (rows_reading preamble.version preamble.limits verdicts table lines.old.left) }
 {
-    let shared = shared_from(has_table(version), verdicts.as_slice().len());
+    let shared = shared_from(has_table(preamble.version), verdicts.as_slice().len());
     let rows = next_counted_rows(alloc, lines, shared)?;
-    read_behind_rows(alloc, lines, version, limits, verdicts, table, rows)
+    read_behind_rows(alloc, lines, preamble, verdicts, table, rows)
 }
 
 // Reads the claims and the line `end`. The parts before are read already, and the answer is the proof of
@@ -105,21 +109,21 @@ fn read_behind_table<'a>(
 fn read_behind_rows<'a>(
     alloc: Global,
     lines: &mut Lines<'a>,
-    version: u32,
-    limits: RunLimits,
+    preamble: Preamble,
     verdicts: Sequence<Option<Sequence<Step>>>,
     table: Sequence<Step>,
     rows: Sequence<RowPlace<'a>>,
 ) -> Result<ProofFile<'a>, ProofFault>
-    ensures { Reads result lines.old lines.new (claims_reading version limits verdicts table rows.entry lines.old.left) }
+    ensures { Reads result lines.old lines.new
+        (claims_reading preamble.version preamble.limits verdicts table rows.entry lines.old.left) }
 {
     let claims = next_counted_parts(alloc, lines, None, b"claims")?;
     next_end(lines)?;
     Ok(ProofFile {
-        version,
-        limit: limits.limit,
-        near: limits.near,
-        budget: limits.budget,
+        version: preamble.version,
+        limit: preamble.limits.limit,
+        near: preamble.limits.near,
+        budget: preamble.limits.budget,
         verdicts,
         table,
         rows,
