@@ -1,6 +1,6 @@
 -- The records whose changes weigh most, change by change.
 use Rattle.std.specs.Prelude.{◌==◌, ◌+◌, ◌-◌, ◌^◌, ℕ, List, [], ◌∷◌, if◌then◌else◌}
-use Rattle.std.specs.Prelude.{codes, flat_map, length, min, position, slice_index_or}
+use Rattle.std.specs.Prelude.{codes, flat_map, length, min, position}
 use Rattle.std.specs.Option.{option_map_or}
 use Rattle.edit_language.specs.Printing.{name_at}
 use Rattle.page_markup.specs.Trees.{Content}
@@ -9,13 +9,10 @@ use Rattle.page_figures.specs.Tables.{Entry, table_content}
 use Rattle.page_figures.specs.Tables.Entry.{Number, Text}
 use Rattle.page_sections.specs.Sections.{section_content}
 use Rattle.reason_lines.specs.declared.entry.Change.{Change}
-use Rattle.record_text.specs.Sheets.{SheetParts, text_at}
+use Rattle.record_text.specs.Sheets.{SheetParts}
+use Rattle.release_figures.specs.ReleasedValues.{text_in}
 use Rattle.release_figures.specs.Releases.{ReleaseParts}
 use Rattle.release_figures.specs.declared.figures.ReleaseFigures.{ReleaseFigures}
-
--- the bytes of a field in the row of this number
-abbrev pub text_in : SheetParts → ℕ → ℕ → List ℕ
-text_in sheet f number = text_at sheet.columns (slice_index_or sheet.row_texts number []) f
 
 -- the bytes of a field in the released row of the record of this number, none where it is not among the records that were released: row k
 -- of the released file is the k-th of them

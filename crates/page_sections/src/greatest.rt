@@ -11,13 +11,13 @@ ghost use Rattle.release_figures.specs.Releases.{release_parts};
 
 use crate::fields::name_at;
 use crate::section::open_section;
-use crate::sheet_text::{released_text, text_in};
+use crate::sheet_text::released_text;
 use foundation::OutOfMemory;
 use page_counts::Amount;
 use page_figures::{Cell, push_table};
 use page_markup::PageWriter;
 use reason_lines::Change;
-use release_figures::{Release, ReleaseFigures};
+use release_figures::{Release, ReleaseFigures, text_in};
 use std::alloc::Global;
 
 const NOTE: &[u8] =

@@ -10,7 +10,7 @@ use Rattle.reason_lines.specs.declared.reading.Reasons.{Reasons}
 use Rattle.page_counts.specs.Records.{changed_count, clean_count, left_out_count}
 use Rattle.page_counts.specs.declared.amounts.Amount.{Amount}
 use Rattle.page_counts.specs.declared.records.RecordCounts.{RecordCounts}
-use Rattle.release_figures.specs.Figures.{AreFieldValues, AreValues, column_after, column_before, numbered, record_counts}
+use Rattle.release_figures.specs.Figures.{AreValues, AreValuesOf, numbered, record_counts}
 use Rattle.release_figures.specs.Releases.{ReleaseParts}
 use Rattle.release_figures.specs.declared.figures.FieldValues.{FieldValues}
 
@@ -62,11 +62,11 @@ module _ (release : ReleaseParts) where
   -- the values of a field more, behind those of the fields from number f on
   pub values_more : (f j : ℕ) (fields : List Field) (field : Field) (values : List FieldValues) (value : FieldValues) → f + length fields ≡ j
       → AreValues release f fields values
-      → AreFieldValues field.kind (column_before release j) (column_after release j) value
+      → AreValuesOf release j field.kind value
       → AreValues release f (fields ++ field ∷ []) (values ++ value ∷ [])
   values_more f j [] field [] value place are is =
       let same : j ≡ f = omega (arith, place) in
-      (subst (λ (n : ℕ). AreFieldValues field.kind (column_before release n) (column_after release n) value) same is, tt)
+      (subst (λ (n : ℕ). AreValuesOf release n field.kind value) same is, tt)
   values_more f j [] field (first ∷ values) value place are is = absurd are
   values_more f j (one ∷ fields) field [] value place are is = absurd are
   values_more f j (one ∷ fields) field (first ∷ values) value place are is =

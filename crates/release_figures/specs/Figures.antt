@@ -27,6 +27,7 @@ use Rattle.page_counts.specs.declared.codes.CodeCounts.{CodeCounts}
 use Rattle.page_counts.specs.declared.fields.FieldCount.{FieldCount}
 use Rattle.page_counts.specs.declared.records.RecordCounts.{RecordCounts}
 use Rattle.page_counts.specs.declared.rules.RuleCount.{RuleCount}
+use Rattle.release_figures.specs.ReleasedValues.{AreReleasedValues}
 use Rattle.release_figures.specs.Releases.{ReleaseParts, released_numbers}
 use Rattle.release_figures.specs.declared.figures.FieldValues.{FieldValues}
 use Rattle.release_figures.specs.declared.figures.FieldValues.TheVariants.{Codes, Numbers}
@@ -102,18 +103,20 @@ AreFieldValues (kind.Code codes) before after (Codes first second) =
     AreCodeCounts (length codes) before first × AreCodeCounts (length codes) after second
 AreFieldValues _ before after values = ⊥
 
--- the values of a field in the records that were released, as they came, and as they were released
+-- the values of a field in the records that were released, as they came
 abbrev pub column_before : ReleaseParts → ℕ → List Value
 column_before release f = column_of release.records.rows f (released_numbers release)
 
-abbrev pub column_after : ReleaseParts → ℕ → List Value
-column_after release f = column_of release.released.rows f (range_with_len 0 (length release.released.rows))
+-- what is counted of the values of a field: of those in the records that were released, as they came, and of those in the released rows
+pub record AreValuesOf (release : ReleaseParts) (f : ℕ) (k : Kind) (values : FieldValues) : Type 0 where
+  pub after : List Value
+  pub released : AreReleasedValues release.released k f after
+  pub counted : AreFieldValues k (column_before release f) after values
 
--- what is counted of the values of the fields from number f on
+-- the same of the fields from number f on
 abbrev pub AreValues : ReleaseParts → ℕ → List Field → List FieldValues → Type 0
 AreValues release f [] [] = Unit {0}
-AreValues release f (field ∷ fields) (values ∷ rest) =
-    AreFieldValues field.kind (column_before release f) (column_after release f) values × AreValues release (suc f) fields rest
+AreValues release f (field ∷ fields) (values ∷ rest) = AreValuesOf release f field.kind values × AreValues release (suc f) fields rest
 AreValues release f _ _ = ⊥
 
 -- ---- all of it

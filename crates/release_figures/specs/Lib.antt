@@ -1,3 +1,4 @@
 pub mod Figures
+pub mod ReleasedValues
 pub mod Releases
 pub mod inner

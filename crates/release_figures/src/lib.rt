@@ -9,9 +9,12 @@ mod numbered;
 mod range;
 mod ranges;
 mod release;
+mod released;
 mod rules;
+mod sheet_text;
 mod values;
 
 pub use counting::figures_of;
 pub use figures::{FieldValues, NumberFigures, NumberValues, ReleaseFigures};
 pub use release::Release;
+pub use sheet_text::text_in;

@@ -2,7 +2,6 @@
 //! released. In contracts, `AreFieldValues` says what is counted of one field, and `AreValues` of all.
 //! `AreNumberFigures` says what is counted of one column of numbers, and `AreBinsOf` which bins there are.
 ghost use Rattle.std.specs.Prelude.{◌≡◌, IfOk};
-ghost use Rattle.std.specs.List.{range_with_len};
 ghost use Rattle.edit_model.specs.Surveys.{IsKind};
 ghost use Rattle.release_figures.specs.Figures.{AreFieldValues, AreNumberFigures, AreValues, beyond_in, counts_in};
 ghost use Rattle.release_figures.specs.Releases.{release_parts, released_numbers};
@@ -11,6 +10,7 @@ ghost use Rattle.release_figures.specs.inner.Ranges.{AreBinsOf};
 use crate::figures::{FieldValues, NumberFigures, NumberValues};
 use crate::ranges::bins_of;
 use crate::release::Release;
+use crate::released::released_values;
 use edit_model::{Kind, Value};
 use foundation::{OutOfMemory, Sequence};
 use page_counts::{
@@ -18,9 +18,9 @@ use page_counts::{
 };
 use std::alloc::Global;
 
-/// For each field, in declared order, its values in the records of these numbers, as they came and as
-/// they were released. `numbers` are those of the released records, from 0: row k of the released file is the
-/// k-th of them. Each column is made once, and dropped before the next.
+/// For each field, in declared order, what is counted of its values in the records of these numbers, as they
+/// came, and in the released rows. `numbers` are those of the released records, from 0. Each column is made
+/// once, and dropped before the next.
 pub(crate) fn field_values(
     alloc: Global,
     release: &Release,
@@ -30,26 +30,13 @@ pub(crate) fn field_values(
     ensures { IfOk result (λ values. AreValues (release_parts release.now) 0 release.now.survey.now.fields values.items) }
 {
     let fields = release.survey.fields();
-    let all_rows = all_rows(alloc, release.released.len())?;
-    let rows = all_rows.as_slice();
     let mut values = Vec::with_capacity(alloc, fields.len())?;
     for (number, field) in fields.iter().enumerate() {
         let before = column(alloc, release.records, numbers, number as u32)?;
-        let after = column(alloc, release.released, rows, number as u32)?;
+        let after = released_values(alloc, release.released, &field.kind, number as u32)?;
         values.push(values_of(alloc, &field.kind, &before, &after)?)?;
     }
     Ok(values)
-}
-
-// The numbers of `rows` rows: 0, 1 and so on.
-fn all_rows(alloc: Global, rows: u32) -> Result<Vec<u32>, OutOfMemory>
-    ensures { IfOk result (λ numbers. numbers.items ≡ range_with_len 0 rows) }
-{
-    let mut numbers = Vec::with_capacity(alloc, rows as usize)?;
-    for number in 0..rows {
-        numbers.push(number)?;
-    }
-    Ok(numbers)
 }
 
 // What is counted of a field's values before and after: bins and totals of a numerical field, or the codes

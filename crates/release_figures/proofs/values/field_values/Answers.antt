@@ -1,9 +1,10 @@
 use Rattle.std.proofs.Common.{◌≡◌, ◌∙◌, ◌+◌, ◌++◌, ℕ, List, [], ◌∷◌, ap, arith, length, subst, sym, take}
-use Rattle.std.specs.List.{range_with_len}
 use Rattle.std.proofs.lemmas.List.{length-take-le, take_more}
 use Rattle.edit_model.specs.declared.field.Field.{Field}
+use Rattle.edit_model.specs.declared.value.Value.{Value}
 use Rattle.page_counts.specs.Columns.{column_of}
-use Rattle.release_figures.specs.Figures.{AreFieldValues, AreValues, column_after, column_before}
+use Rattle.release_figures.specs.Figures.{AreFieldValues, AreValues, AreValuesOf, column_before}
+use Rattle.release_figures.specs.ReleasedValues.{AreReleasedValues}
 use Rattle.release_figures.specs.Releases.{release_parts}
 use Rattle.release_figures.specs.declared.figures.FieldValues.{FieldValues}
 use Rattle.release_figures.proofs.FigureLaws.{values_more, with_both}
@@ -19,11 +20,11 @@ loop-number-preserved c =
     let value = c.in_ok-values_of.field-0 in
     let before : c.deref.result.now ≡ column_before release n =
     c.deref.ensures.value ∙ c.in_ok-before.ensures ∙ ap (column_of release.records.rows n) c.requires in
-    let after : c.deref-in-loop-number.result.now ≡ column_after release n =
-    c.deref-in-loop-number.ensures.value ∙ c.in_ok-after.ensures ∙ ap (column_of release.released.rows n)
-    (c.as_slice-rows.ensures.value ∙ c.in_ok-all_rows.ensures ∙ ap (range_with_len 0) c.len.ensures.rows) in
-    let is : AreFieldValues field.kind (column_before release n) (column_after release n) value =
-    with_both (λ first second. AreFieldValues field.kind first second value) before after c.in_ok-values_of.ensures in
+    let is : AreValuesOf release n field.kind value = record {
+      after = c.deref-in-loop-number.result.now;
+      released = subst (AreReleasedValues release.released field.kind n) (sym c.deref-in-loop-number.ensures.value) c.in_ok-after.ensures;
+      counted = subst (λ (column : List Value). AreFieldValues field.kind column c.deref-in-loop-number.result.now value) before c.in_ok-values_of.ensures;
+    } in
     let more : take (n + 1) fields ≡ take n fields ++ field ∷ [] = take_more fields n field (omega arith)
     ∙ ap (λ (f : Field). take n fields ++ f ∷ []) (sym c.index-fields-number.is) in
     with_both (AreValues release 0) (sym more) (sym c.in_ok-push.ensures.items)
