@@ -4,11 +4,14 @@
 usage: bench/page_counts.py RULES RECORDS RELEASED REASONS PAGE
 
 Each table of the page is looked for by its caption, and each cell of it is compared. The bins of a histogram are taken from the page;
-that each of their counts is right, that all numbers are in one of them, and that they are of equal width is looked at. It prints the
-first difference of each table, and a last line that counts tables and cells. The status is 1 where something differs.
+that each of their counts is right, that they are of equal width, and that all numbers are in one of them, but where a numerator is above
+10^33 in size, is looked at. It prints the first difference of each table, and a last line that counts tables and cells. The status is 1
+where something differs.
 """
 import csv
+import math
 import os
+import re
 import sys
 from collections import Counter
 from fractions import Fraction
@@ -19,6 +22,8 @@ import rule_language
 
 HEADER = ['record', 'cause', 'field', 'before', 'after', 'donor', 'detail']
 CAUSES = ['budget', 'overflow', 'contradictory', 'nolast', 'nocorrection']
+# Numbers with a numerator above this, in size, are in no bin.
+MOST_BINNED = 10 ** 33
 
 
 class Tables(HTMLParser):
@@ -67,13 +72,32 @@ def fraction_text(number):
 
 
 def sum_text(numbers):
-    """The sum, as the page says it: added one after the other within 128 bits."""
+    """The sum, as the page says it: added one after the other, over the least common denominator, within 128 bits."""
     total = Fraction(0)
     for number in numbers:
-        total += number
-        if max(abs(total.numerator), total.denominator) >= 2 ** 127:
+        below = math.lcm(total.denominator, number.denominator)
+        parts = [x.numerator * (below // x.denominator) for x in (total, number)]
+        if max(map(abs, [*parts, sum(parts), below])) >= 2 ** 127:
             return 'past 128 bits'
+        total += number
     return fraction_text(total)
+
+
+def printed(text):
+    """The number within 128 bits of which this text is the one printed spelling; None where it is that of none."""
+    found = re.fullmatch('(-?[0-9]{1,39})(?:/([0-9]{1,39}))?', text)
+    if not found or found[2] and not int(found[2]):
+        return None
+    number = Fraction(int(found[1]), int(found[2] or 1))
+    is_small = max(abs(number.numerator), number.denominator) < 2 ** 127
+    return number if is_small and fraction_text(number) == text else None
+
+
+def bin_of(lows, width, number):
+    """Which of the bins of this width, which begin at these numbers, has the number; None where none has it."""
+    if abs(number.numerator) > MOST_BINNED or not lows or not lows[0] <= number < lows[-1] + width:
+        return None
+    return max(i for i, low in enumerate(lows) if low <= number)
 
 
 class Edit:
@@ -86,6 +110,10 @@ class Edit:
         new_header, self.new_texts, self.new_rows = rule_language.read_records(self.survey, read(released))
         self.columns = [header.index(field.name) for field in self.survey.fields]
         self.new_columns = [new_header.index(field.name) for field in self.survey.fields]
+        for texts, row in zip(self.new_texts, self.new_rows):
+            for f, field in enumerate(self.survey.fields):
+                if field.is_num and row[f] is None:
+                    row[f] = printed(texts[self.new_columns[f]])
         lines = list(csv.reader(open(reasons, encoding='latin-1', newline='')))
         assert lines[0] == HEADER, lines[0]
         self.changes = [line for line in lines[1:] if line[1] == 'changed']
@@ -153,24 +181,33 @@ class Edit:
         names = self.survey.fields[f].codes
         return [[name, str(before[c]), str(after[c])] for c, name in [*enumerate(names), (None, 'no value')]]
 
+    def numbers(self, f):
+        return [[x for x in column if x is not None] for column in self.columns_of(f)]
+
     def totals(self, f):
         before, after = self.columns_of(f)
-        numbers = [[x for x in column if x is not None] for column in (before, after)]
-        return [['sum', *map(sum_text, numbers)], ['no value', str(before.count(None)), str(after.count(None))], ['in no bin', '0', '0']]
+        return [['sum', *map(sum_text, self.numbers(f))], ['no value', str(before.count(None)), str(after.count(None))]]
 
-    def bins(self, f, lows):
-        """The counts over the bins that begin at these numbers."""
+    def binned(self, f, lows):
+        """For both columns how many numbers are in each of the bins that begin at these numbers, and in none of them (None)."""
         lows = [Fraction(low) for low in lows]
         widths = {b - a for a, b in zip(lows, lows[1:])}
         assert len(lows) <= 20 and len(widths) <= 1, f'bins of {self.survey.fields[f].name} are not of one width'
-        counts = []
-        for column in self.columns_of(f):
-            number = Counter()
-            for x in column:
-                if x is not None:
-                    number[max(i for i, low in enumerate(lows) if low <= x)] += 1
-            counts.append(number)
-        return [[str(counts[0][i]), str(counts[1][i])] for i in range(len(lows))]
+        columns = self.numbers(f)
+        # (a bin that is alone has the least width)
+        width = next(iter(widths), 1 if all(x.denominator == 1 for column in columns for x in column) else Fraction(1, 1000))
+        return [Counter(bin_of(lows, width, x) for x in column) for column in columns]
+
+    def beyond(self, f, lows):
+        counts = [column[None] for column in self.binned(f, lows)]
+        has_great = any(abs(x.numerator) > MOST_BINNED for column in self.numbers(f) for x in column)
+        assert has_great or not any(counts), f'bins of {self.survey.fields[f].name} leave numbers out'
+        return ['in no bin', *map(str, counts)]
+
+    def bins(self, f, lows):
+        """The counts over the bins that begin at these numbers."""
+        before, after = self.binned(f, lows)
+        return [[str(before[i]), str(after[i])] for i in range(len(lows))]
 
 
 def main():
@@ -190,7 +227,7 @@ def main():
             continue
         lows = [row[0] for row in found.get(caption, [[]])[1:]]
         wanted.append((caption, [[low, *counts] for low, counts in zip(lows, edit.bins(f, lows))]))
-        wanted.append((f'{caption}, totals', edit.totals(f)))
+        wanted.append((f'{caption}, totals', [*edit.totals(f), edit.beyond(f, lows)]))
     for caption, rows in wanted:
         rows = [[shown(cell) for cell in row] for row in rows]
         if caption not in found:

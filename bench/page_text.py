@@ -155,12 +155,13 @@ def decimal(t):
 
 def bins_of(columns):
     """Where the bins begin, and their width: the least of 1, 2, 5, 10, .. thousandths, at least 1000 where all numbers are whole, of which
-    20 reach."""
-    numbers = [x for column in columns for x in column if x is not None]
-    marks = [t for t in map(thousandths, (min(numbers), max(numbers)) if numbers else ()) if t is not None]
-    if len(marks) < 2:
+    20 reach over the least and the greatest number of each column, so far as these have thousandths."""
+    columns = [[x for x in column if x is not None] for column in columns]
+    numbers = [x for column in columns for x in column]
+    marks = [t for column in columns if column for t in map(thousandths, (min(column), max(column))) if t is not None]
+    if not marks:
         return None
-    least, greatest = marks
+    least, greatest = min(marks), max(marks)
     unit = 1000 if all(x.denominator == 1 for x in numbers) else 1
     for step in range(120):
         width = (1, 2, 5)[step % 3] * 10 ** (step // 3)
@@ -186,8 +187,8 @@ def values(edit, f, field):
         beyond.append(len(marks) - sum(counts))
     names = [decimal(bins[0] + i * bins[1]) for i in range(bins[2])] if bins else []
     said = 'Two upright bars for each bin: how many values were in it before, and how many are after. A bin is named by its lower end.'
-    rows = edit.totals(f)
-    rows = [rows[0], ['no value', *map(int, rows[1][1:])], ['in no bin', *beyond]]
+    total, none = edit.totals(f)
+    rows = [total, ['no value', *map(int, none[1:])], ['in no bin', *beyond]]
     return (heading + figure(upright, 10 + f, title, said, 'from', ['before', 'after'], [(n, [a, b]) for n, a, b in zip(names, *bars)])
             + table('Totals', ['', 'before', 'after'], rows))
 
