@@ -1,6 +1,6 @@
 A page that shows what an edit changed. What is printed counts the records that were clean, changed and left out. The page itself is
-compared with counts over its files outside the gate; here it is seen that it is stored, that it is the same each time, and when it is
-refused.
+compared with counts over its files outside the gate; here it is seen that it is stored, that it is the same each time, when it is
+refused, and how it counts numbers that a record file could not hold.
 
 Turnover, Costs and Profit: the first record is right, the second gets the Profit of the first, the others have no donor.
 
@@ -66,6 +66,87 @@ A file of no records, and rules of no fields.
   $ cp some some.released
   $ forxainde page --rules empty --records some --released some.released --reasons said --page page
   page records 1 clean 1 changed 0 left out 0
+
+A new number of 16 digits is a value of the released record, though no record file spells it so. The 11 bins are 10^14 wide: with
+half of that, 21 would be needed.
+
+  $ cat >great <<EOF
+  > number A
+  > A >= 1000000000000000
+  > EOF
+  $ cat >five <<EOF
+  > A
+  > 5
+  > EOF
+  $ forxainde edit --rules great --records five --released great.released --reasons great.reasons --proof great.proof
+  records 1 clean 0 changed 1 unresolved 0 weight 1
+  claims 1 given 0
+  $ cat great.released
+  A
+  1000000000000000
+  $ forxainde check --rules great --records five --released great.released --proof great.proof
+  valid records 1 released 1
+  $ forxainde page --rules great --records five --released great.released --reasons great.reasons --page great.page
+  page records 1 clean 0 changed 1 left out 0
+  $ grep -oF '<tr><th scope="row">sum</th><td>5</td><td>1000000000000000</td></tr>' great.page
+  <tr><th scope="row">sum</th><td>5</td><td>1000000000000000</td></tr>
+  $ grep -oF '<tr><th scope="row">no value</th><td class="number">0</td><td class="number">0</td></tr>' great.page
+  <tr><th scope="row">no value</th><td class="number">0</td><td class="number">0</td></tr>
+  $ grep -oF '<tr><th scope="row">in no bin</th><td class="number">0</td><td class="number">0</td></tr>' great.page
+  <tr><th scope="row">in no bin</th><td class="number">0</td><td class="number">0</td></tr>
+  $ grep -oF '<tr><th scope="row">0</th><td class="number">1</td><td class="number">0</td></tr>' great.page
+  <tr><th scope="row">0</th><td class="number">1</td><td class="number">0</td></tr>
+  $ grep -oF '<tr><th scope="row">1000000000000000</th><td class="number">0</td><td class="number">1</td></tr>' great.page
+  <tr><th scope="row">1000000000000000</th><td class="number">0</td><td class="number">1</td></tr>
+
+The same digits behind a zero are no printed number, and as ever no numeral. Before, no text is a number but a numeral: the 16 digits are a
+value after, and none before.
+
+  $ cp great.released zero.released
+  $ sed -i -e '2c\01000000000000000' zero.released
+  $ forxainde page --rules great --records five --released zero.released --reasons great.reasons --page zero.page
+  page records 1 clean 0 changed 1 left out 0
+  $ grep -oF '<tr><th scope="row">sum</th><td>5</td><td>0</td></tr>' zero.page
+  <tr><th scope="row">sum</th><td>5</td><td>0</td></tr>
+  $ grep -oF '<tr><th scope="row">no value</th><td class="number">0</td><td class="number">1</td></tr>' zero.page
+  <tr><th scope="row">no value</th><td class="number">0</td><td class="number">1</td></tr>
+  $ forxainde page --rules great --records great.released --released great.released --reasons great.reasons --page same.page
+  page records 1 clean 0 changed 1 left out 0
+  $ grep -oF '<tr><th scope="row">sum</th><td>0</td><td>1000000000000000</td></tr>' same.page
+  <tr><th scope="row">sum</th><td>0</td><td>1000000000000000</td></tr>
+  $ grep -oF '<tr><th scope="row">no value</th><td class="number">1</td><td class="number">0</td></tr>' same.page
+  <tr><th scope="row">no value</th><td class="number">1</td><td class="number">0</td></tr>
+  $ rm great great.page great.proof great.reasons great.released five same.page zero.page zero.released
+
+So is a new fraction with a denominator above 1,000,000. The 9 bins are 0.5 wide: with 0.2, 21 would be needed.
+
+  $ cat >parts <<EOF
+  > number A
+  > 1000003 A = 1
+  > EOF
+  $ cat >wholes <<EOF
+  > A
+  > 0
+  > 4
+  > EOF
+  $ forxainde edit --rules parts --records wholes --released parts.released --reasons parts.reasons --proof parts.proof
+  records 2 clean 0 changed 2 unresolved 0 weight 2
+  claims 2 given 0
+  $ cat parts.released
+  A
+  1/1000003
+  1/1000003
+  $ forxainde page --rules parts --records wholes --released parts.released --reasons parts.reasons --page parts.page
+  page records 2 clean 0 changed 2 left out 0
+  $ grep -oF '<tr><th scope="row">sum</th><td>4</td><td>2/1000003</td></tr>' parts.page
+  <tr><th scope="row">sum</th><td>4</td><td>2/1000003</td></tr>
+  $ grep -oF '<tr><th scope="row">no value</th><td class="number">0</td><td class="number">0</td></tr>' parts.page
+  <tr><th scope="row">no value</th><td class="number">0</td><td class="number">0</td></tr>
+  $ grep -oF '<tr><th scope="row">0</th><td class="number">1</td><td class="number">2</td></tr>' parts.page
+  <tr><th scope="row">0</th><td class="number">1</td><td class="number">2</td></tr>
+  $ grep -oF '<tr><th scope="row">4</th><td class="number">1</td><td class="number">0</td></tr>' parts.page
+  <tr><th scope="row">4</th><td class="number">1</td><td class="number">0</td></tr>
+  $ rm parts parts.page parts.proof parts.reasons parts.released wholes
 
 The released file has to have a row for each record that was not left out, and no other.
 

@@ -4,6 +4,7 @@
 
 mod asked;
 mod own;
+mod places;
 mod runs;
 
 use case_files::run_program;

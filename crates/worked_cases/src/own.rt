@@ -1,5 +1,5 @@
 //! The commands of `worked_cases`, beside those of files: runs of the program, what its words ask for,
-//! and what is to fail.
+//! what is to fail, and where a text stands in a file.
 
 use case_files::{Role, number_of};
 use edit_desk::Failure;
@@ -18,6 +18,8 @@ pub enum Own<'a> {
     FailLine { number: u64 },
     /// `calls`: shows the calls of the desk in the last run.
     Calls,
+    /// `grep -oF TEXT NAME`: shows at how many places of the file the text stands.
+    Places { text: &'a str, name: &'a str },
 }
 
 impl<'a> Own<'a> {
@@ -37,6 +39,10 @@ impl<'a> Own<'a> {
                 number: number_of(number)?,
             }),
             ["calls"] => Some(Own::Calls),
+            ["grep", "-oF", text, name] => Some(Own::Places {
+                text: *text,
+                name: *name,
+            }),
             _ => None,
         }
     }

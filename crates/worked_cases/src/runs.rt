@@ -3,6 +3,7 @@
 
 use crate::asked::asked_line;
 use crate::own::Own;
+use crate::places::places_shown;
 use case_files::{Commands, Files, Role, spelled_lines};
 use edit_commands::fh_main;
 use edit_desk::{Call, Failure, MemoryDesk, MemoryPrinter};
@@ -62,6 +63,7 @@ impl Commands for Runs {
             Some(Own::Run { words }) => self.run_command_line(rt, alloc, files, words),
             Some(Own::Words { words }) => words_told(alloc, words),
             Some(Own::Calls) => copy_lines(alloc, &self.calls),
+            Some(Own::Places { text, name }) => places_shown(alloc, files, text, name),
         }
     }
 }
