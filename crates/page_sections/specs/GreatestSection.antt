@@ -1,6 +1,6 @@
 -- The records whose changes weigh most, change by change.
 use Rattle.std.specs.Prelude.{◌==◌, ◌+◌, ◌-◌, ◌^◌, ℕ, List, [], ◌∷◌, if◌then◌else◌}
-use Rattle.std.specs.Prelude.{codes, flat_map, length, min, position}
+use Rattle.std.specs.Prelude.{codes, flat_map, min, position}
 use Rattle.std.specs.Option.{option_map_or}
 use Rattle.edit_language.specs.Printing.{name_at}
 use Rattle.page_markup.specs.Trees.{Content}
