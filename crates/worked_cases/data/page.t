@@ -110,13 +110,14 @@ value after, and none before.
   <tr><th scope="row">sum</th><td>5</td><td>0</td></tr>
   $ grep -oF '<tr><th scope="row">no value</th><td class="number">0</td><td class="number">1</td></tr>' zero.page
   <tr><th scope="row">no value</th><td class="number">0</td><td class="number">1</td></tr>
-  $ forxainde page --rules great --records great.released --released great.released --reasons great.reasons --page same.page
+  $ cp great.released digits
+  $ forxainde page --rules great --records digits --released great.released --reasons great.reasons --page same.page
   page records 1 clean 0 changed 1 left out 0
   $ grep -oF '<tr><th scope="row">sum</th><td>0</td><td>1000000000000000</td></tr>' same.page
   <tr><th scope="row">sum</th><td>0</td><td>1000000000000000</td></tr>
   $ grep -oF '<tr><th scope="row">no value</th><td class="number">1</td><td class="number">0</td></tr>' same.page
   <tr><th scope="row">no value</th><td class="number">1</td><td class="number">0</td></tr>
-  $ rm great great.page great.proof great.reasons great.released five same.page zero.page zero.released
+  $ rm digits great great.page great.proof great.reasons great.released five same.page zero.page zero.released
 
 So is a new fraction with a denominator above 1,000,000. The 9 bins are 0.5 wide: with 0.2, 21 would be needed.
 
