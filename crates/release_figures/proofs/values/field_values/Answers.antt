@@ -1,4 +1,4 @@
-use Rattle.std.proofs.Common.{◌≡◌, ◌∙◌, ◌+◌, ◌++◌, ℕ, List, [], ◌∷◌, ap, arith, length, subst, sym, take}
+use Rattle.std.proofs.Common.{◌≡◌, ◌∙◌, ◌+◌, ◌++◌, List, [], ◌∷◌, ap, arith, subst, sym, take}
 use Rattle.std.proofs.lemmas.List.{length-take-le, take_more}
 use Rattle.edit_model.specs.declared.field.Field.{Field}
 use Rattle.edit_model.specs.declared.value.Value.{Value}
@@ -6,7 +6,6 @@ use Rattle.page_counts.specs.Columns.{column_of}
 use Rattle.release_figures.specs.Figures.{AreFieldValues, AreValues, AreValuesOf, column_before}
 use Rattle.release_figures.specs.ReleasedValues.{AreReleasedValues}
 use Rattle.release_figures.specs.Releases.{release_parts}
-use Rattle.release_figures.specs.declared.figures.FieldValues.{FieldValues}
 use Rattle.release_figures.proofs.FigureLaws.{values_more, with_both}
 use Rattle.release_figures.proofs.values.field_values.Goals as goal
 
