@@ -12,7 +12,7 @@
 #include <time.h>
 #include <unistd.h>
 
-enum { STOP = 35, LONGEST = 200000, BETWEEN = 40000 };
+enum { STOP = 35, LONGEST = 200000, BETWEEN = 400000 };
 
 static uint64_t drawn;
 
