@@ -40,7 +40,8 @@ pub(crate) fn push_rule(
 ) -> Result<(), OutOfMemory>
     requires conditions { All (FitsCodes fields.now) numbered.now.rule.now.conditions }
     requires conclusion { FitsCodes fields.now numbered.now.rule.now.conclusion }
-    ensures { OnOk result (lines.new.items ≡ joined_by lines.old.items numbered.now.number (all_lines_of fields.now numbered.now.rule.now)) }
+    ensures { OnOk result (lines.new.items
+        ≡ joined_by lines.old.items numbered.now.number (all_lines_of fields.now numbered.now.rule.now)) }
 {
     if numbered.rule.conditions.as_slice().is_empty() {
         push_always(alloc, fields, numbered, lines)
@@ -224,7 +225,8 @@ fn push_contrary(
     lines: &mut Vec<RuleLine>,
 ) -> Result<(), OutOfMemory>
     requires { AreWithin test.now.sets.now (whole_sets fields.now) }
-    ensures { OnOk result (lines.new.items ≡ joined_by lines.old.items rule (lines_against fields.now test.now.sets.now test.now.linear.now)) }
+    ensures { OnOk result (lines.new.items
+        ≡ joined_by lines.old.items rule (lines_against fields.now test.now.sets.now test.now.linear.now)) }
 {
     match test.linear.compare {
         Compare::Ge => push_side(alloc, fields, test, Side::Below, rule, lines),

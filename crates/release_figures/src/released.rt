@@ -38,7 +38,8 @@ pub(crate) fn released_values(
 fn released_value(released: &Sheet, kind: &Kind, field: u32, row: u32) -> Value
     requires { row < length released.now.rows }
     ensures is { IsReleasedAs kind.now (text_in released.now field row) (value_at released.now.rows field row) result }
-    ensures only { (v : Other) → IsReleasedAs kind.now (text_in released.now field row) (value_at released.now.rows field row) v → v ≡ result }
+    ensures only { (v : Other) → IsReleasedAs kind.now (text_in released.now field row) (value_at released.now.rows field row) v
+        → v ≡ result }
 {
     match (kind, value_read(released, field, row)) {
         (Kind::Number { .. }, Value::Bad) => printed_value(text_in(released, field, row as usize)),
