@@ -39,7 +39,8 @@ impl Count {
         self.passed > 0 && self.failed == 0
     }
 
-    /// The sum of this count and `other`, of two files. A sum past 64 bits stays at the greatest number.
+    /// The sum of this count, such as that of the files so far, and `other`, such as that of the next file. A
+    /// sum past 64 bits stays at the greatest number.
     pub fn plus(self, other: Count) -> Count
         ensures { result.failed ≡ 0 ↔ (self.failed ≡ 0) × (other.failed ≡ 0) }
     {

@@ -32,8 +32,9 @@ struct EmptyRecord<'a> {
     row: &'a Row,
 }
 
-/// The number, from 1, of the first line of the proof whose verdict on a line of the rules is not right, or
-/// None. The first verdict stands on line 4, behind the version, the limits and the count of verdicts.
+/// The number, from 1, of the first line of the proof at which a verdict on a line of the rules is not right:
+/// that of the verdict itself, or of its first step that is not valid. None where all are right. The first
+/// verdict stands on line 4, behind the version, the limits and the count of verdicts.
 /// `lines` are lent for writing, so that none is copied for each line that is dropped.
 pub(crate) fn drop_fault(
     alloc: Global,
@@ -85,7 +86,7 @@ fn verdicts_fault(
     Ok(None)
 }
 
-/// For each line of the rules whether the proof keeps it, which a verdict without steps says.
+/// For each line of the rules whether the proof keeps it: its verdict is then None.
 pub(crate) fn kept_flags(
     alloc: Global,
     verdicts: &[Option<Sequence<Step>>],

@@ -109,7 +109,7 @@ fn answer_of(reply: Option<u32>) -> Claim {
 }
 
 // Whether a book of one thread answers each claim of the history, in its order, as it was answered there.
-// False also where a row is none of the file's.
+// False also where a row's number is not below `ROWS`.
 fn is_answered_again(alloc: Global, history: &[Won]) -> Result<bool, OutOfMemory> {
     let mut book = Book::start(alloc, DONORS, LIMIT, ROWS)?;
     for won in history {

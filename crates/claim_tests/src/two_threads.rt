@@ -31,8 +31,8 @@ fn pair(alloc: Global, one: Pass, two: Pass) -> Result<Vec<Pass>, OutOfMemory>
     Ok(both)
 }
 
-// Two threads claim the one donor, which is given at most once, for the rows `first` and `second` of two.
-// The answer has the history, and what each thread was answered.
+// Two threads claim the one donor, which is given at most once, for the rows `first` and `second`. The book
+// has two rows. The answer has the history, and what each thread was answered.
 fn claim_by_two<R: Threads + Sync>(
     rt: &R,
     alloc: Global,

@@ -177,10 +177,10 @@ impl Deck {
 }
 
 // The deck of these donors, which are clean rows in rising order. The marks are those of all rows of the
-// sheet. The deck keeps them once more, with their ranges, in the order of the slots of the first numerical
-// field; a survey without such a field has no slots, and neither marks nor ranges here. What stands beside the
-// donors is right where the sheet's numbers are as small as the numerals of record files spell them
-// (`HasPlainNumbers`). It is refused for want of memory alone.
+// sheet. The deck keeps those of the donors once more, with their ranges, in the order of the slots of the
+// first numerical field; a survey without such a field has no slots, and neither marks nor ranges here. What
+// stands beside the donors is right where the sheet's numbers are as small as the numerals of record files
+// spell them (`HasPlainNumbers`). It is refused for want of memory alone.
 fn deck_of(
     alloc: Global,
     survey: &Survey,

@@ -93,7 +93,7 @@ pub(crate) fn code_set(codes: &[Name], list: &CodeList) -> u64
     set
 }
 
-/// All codes of a list, in order, for the field that the list declares: the first, and then the rest.
+/// All codes of a list, in order, for the field that is declared with it: the first, and then the rest.
 pub(crate) fn listed_codes(list: CodeList) -> Result<Vec<Name>, OutOfMemory>
     ensures { IfOk result (λ codes. codes.items ≡ listed list) }
 {

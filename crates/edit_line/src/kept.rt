@@ -148,8 +148,8 @@ fn first_agreeing(lines: &[Derived], keys: &[u64], line: &Line, key: u64) -> usi
     lines.len()
 }
 
-// Whether one of the lines, whose keys are `keys`, subsumes the given line, whose key is `key`. No line before
-// the place `first` does, so the search begins there.
+// Whether one of the lines, whose keys are `keys`, subsumes the given line, whose key is `key`. Lines before the
+// place `first` need not be asked (`NoneOver`), so the search begins there.
 fn is_subsumed(lines: &[Derived], keys: &[u64], line: &Line, key: u64, first: usize) -> bool
     requires keyed { keys.now ≡ keys_of lines.now }
     requires key { key ≡ key_of line.now.factors }

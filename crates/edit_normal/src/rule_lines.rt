@@ -50,7 +50,7 @@ pub(crate) fn push_rule(
     }
 }
 
-// Appends the lines of a rule without conditions, which asks for its conclusion of each record.
+// Appends the lines of a rule without conditions: its conclusion has to hold at each record.
 fn push_always(
     alloc: Global,
     fields: &SurveyShape,

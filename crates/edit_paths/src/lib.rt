@@ -1,5 +1,5 @@
-//! Paths of the search for the least set of fields to change in a record. It says what becomes of each, what it
-//! costs to find out, in which order they are taken, and what is found of the record. Begin with
+//! Paths of the search for the least set of fields to change in a record. This crate says what becomes of each,
+//! what it costs to find out, in which order they are taken, and what is found of the record. Begin with
 //! `specs/Outcomes.antt`, which says what the search answers; [`outcome_laws`] says what that means for
 //! the record. When a path is closed is said in `specs/States.antt`, and what that means by [`path_laws`].
 #![tactic(auto)]

@@ -24,8 +24,8 @@ pub(crate) fn path_found(outcome: &Outcome) -> &[bool]
     }
 }
 
-/// Whether the path keeps each field of which it says something, as an empty path does: the record is clean
-/// where it was given values. No memory.
+/// Whether the path keeps each field of which it says something, as an empty path does. A record of such a
+/// path is clean, if it was given values. No memory.
 pub(crate) fn keeps_every_field(path: &[bool]) -> bool
     ensures { result ≡ all_kept path.now }
 {

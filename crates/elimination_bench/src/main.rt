@@ -31,7 +31,7 @@ fn main(rt: HostRuntime) -> ExitCode {
 }
 
 // What is printed of the words of the command line behind the program's name, or why nothing is. The
-// faults are those of `text_of`, and want of memory for the words.
+// faults are those of `text_of`, want of memory for the words, and `Fault::Usage` where a word is no text.
 fn asked_text<R: std::rt::Env + AllocGlobal>(rt: &R, alloc: Global) -> Result<String, Fault> {
     let words = words_of(alloc, env::args(rt))?;
     text_of(alloc, &words)

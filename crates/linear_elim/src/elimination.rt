@@ -270,7 +270,7 @@ fn take_flat(
 }
 
 // The places, from 0, of the lines that bound the field from above, in order. A line that bounds it
-// from below is combined with some of these, and looks at no others.
+// from below is combined with some of these, and no others are looked at for it.
 fn upper_places(alloc: Global, given: &StepLines) -> Result<Vec<usize>, OutOfMemory>
     ensures { IfOk result (λ uppers. uppers.items ≡ places_from (is_upper given.now.column.field) 0 given.now.lines.now) }
 {

@@ -29,7 +29,7 @@ use std::alloc::Global;
 
 /// Writes the page about the edit that the words name, and prints how many records were clean, changed
 /// and left out. Where the run is refused, the reason is printed instead. The answer is the status of the
-/// run: `Done`, or that of the refusal, or `WriteFault` where the line is not printed.
+/// run: `Done`, or that of the refusal, or `WriteFault` where the line of the counts is not printed.
 pub fn run_page<D: Desk, P: Printer>(
     alloc: Global,
     asked: &PageWords,

@@ -1,7 +1,7 @@
 //! Records or donors by an amount: what a record's changes weigh, or to how many records a donor gave. It
 //! is counted how many have each amount, and found which have the greatest. In contracts, `IsTally` says
-//! that counts have each size that occurs once, by rising size. `AreGreatest` says that amounts are the
-//! first of all, the greater first.
+//! that for each size that occurs there is one count, that of the amounts of this size, by rising size.
+//! `AreGreatest` says that amounts are the first of all, the greater first.
 ghost use Rattle.std.specs.BTreeMap.{get};
 ghost use Rattle.std.specs.Prelude.{◌≡◌, ◌==◌, ◌≤◌, ℕ, IfOk, IfSome, count_by, unwrap_or};
 ghost use Rattle.std.specs.Ordering.{nat_cmp};

@@ -50,7 +50,7 @@ fn round_width(step: u32) -> i128
     factor(step % 3) * power_of_ten(step / 3)
 }
 
-// By how much a width is more than its power of ten: 1, 2 or 5, for the rests 0, 1 and 2 of its step by 3.
+// How many times its power of ten a width is: 1, 2 or 5, for the rests 0, 1 and 2 of its step by 3.
 fn factor(rest: u32) -> i128
     requires { rest < 3 }
     ensures { result ≡ pos (slice_index (1 ∷ 2 ∷ 5 ∷ []) rest) }

@@ -103,8 +103,8 @@ fn push_change<'a>(
 
 // The row of a change. It has the number of its record, from 1, and what all changes of that record weigh,
 // which `amount` has. Then come the name of the changed field, and its bytes before and after. `numbers` are
-// those of the released records. A name or a text is empty where the survey has no such field, or where the
-// record is not released.
+// those of the released records. The name is empty where the survey has no such field, and the bytes after
+// where the record was not released.
 fn change_row<'a>(
     alloc: Global,
     release: &Release<'a>,

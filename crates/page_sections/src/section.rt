@@ -1,5 +1,5 @@
-//! How each section of the page begins. In contracts, `added` says what content is put last in the page, and `opened`
-//! which element is open then.
+//! How each section of the page begins. In contracts, `added` says what content is put last in the page, and
+//! `opened` which element is open then.
 ghost use Rattle.std.specs.Prelude.{◌≡◌, [], OnOk};
 ghost use Rattle.page_markup.specs.OpenPages.{added, opened};
 ghost use Rattle.page_markup.specs.Trees.Content.{Nothing};
@@ -12,7 +12,8 @@ use page_markup::{Attribute, PageWriter, Tag, Value};
 
 const OF_NOTE: &[(Attribute, Value)] = &[(Attribute::Class, Value::Words(b"note"))];
 
-/// Opens a section, which the caller closes when its figure is added. Its heading and its note are added.
+/// Opens a section, and adds its heading and its note. The caller adds what the section shows, such as a
+/// figure or a table, and closes it.
 pub(crate) fn open_section(
     page: &mut PageWriter,
     heading: &[u8],

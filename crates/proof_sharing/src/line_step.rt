@@ -63,8 +63,8 @@ pub(crate) fn as_tabled(places: &[u64], step: &Step) -> Option<LineStep>
     }
 }
 
-/// The number at `place`, from 0, of the list, or 0 where the list is shorter. Steps that name a step
-/// before them are looked up so.
+/// The number at `place`, from 0, of the list, or 0 where the list has none there. So it is looked up where
+/// a step of a leaf stands in the table, or among the steps that are kept.
 pub(crate) fn number_at(numbers: &[u64], place: u64) -> u64
     ensures { result ≡ slice_index_or numbers.now place 0 }
 {

@@ -1,9 +1,10 @@
 //! The walk that tries one line. It begins with the line's negation and the lines that are left. From these
 //! it eliminates the numerical fields in declared order, and then the categorical ones. It ends where
-//! something absurd is left, or no field is, or the budget is passed. Absurd is a line for all codes that no
-//! numbers meet, or a box of all codes. In this file `wholes` has the set of all codes of each categorical
-//! field. In contracts, `number_walk`, `box_walk` and `all_code_walk` are the verdict of the walk from these
-//! lines or boxes on. `number_end` and `IsCodeEnd` tell the verdict of one turn, if that ends the walk.
+//! something absurd is left, or no field is, or the budget is passed, or a number leaves the range. Absurd is
+//! a line for all codes that no numbers meet, or a box of all codes. In this file `wholes` has the set of all
+//! codes of each categorical field. In contracts, `number_walk`, `box_walk` and `all_code_walk` are the
+//! verdict of the walk from these lines or boxes on. `number_end` and `IsCodeEnd` tell the verdict of one
+//! turn, if that ends the walk.
 ghost use Rattle.std.specs.Prelude.{◌≡◌, ◌≤◌, ◌<◌, ◌+◌, [], All, IfNone, IfOk, None, Ok};
 ghost use Rattle.edit_model.specs.Rows.{IsRow};
 ghost use Rattle.edit_line.specs.Lines.{HaveShape};

@@ -1,5 +1,5 @@
 //! The figures of a release, counted from its four parts. In contracts, `AreFigures` says that each
-//! figure is what the definitions count. `IsTally` says that counts have each size that occurs once, by
+//! figure is what the definitions count. `IsTally` says that for each size that occurs there is one count, by
 //! rising size.
 ghost use Rattle.std.specs.Prelude.{◌≡◌, IfOk, length};
 ghost use Rattle.std.specs.List.Sorted.{IsNonDecreasingBy};

@@ -18,8 +18,8 @@ const WHOLE_UNIT: i128 = 1000;
 const UNIT: i128 = 1;
 
 /// The bins over the numbers of both columns, from the least to the greatest, and not narrower than 1
-/// where all of them are whole. None where there is no number, or the thousandths can be told neither of a
-/// column's least number nor of its greatest. No memory.
+/// where all of them are whole. None where there is no number, or the thousandths can be told of neither
+/// column's least number, nor of its greatest. No memory.
 pub(crate) fn bins_of(before: &[Value], after: &[Value]) -> Option<Bins>
     ensures { AreBinsOf before.now after.now result }
 {

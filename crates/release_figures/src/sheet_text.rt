@@ -4,8 +4,8 @@ ghost use Rattle.release_figures.specs.ReleasedValues.{text_in};
 
 use record_text::{Sheet, Texts};
 
-/// The bytes of a field in the row of the number `row`, from 0; no byte where there is no such row. No
-/// memory.
+/// The bytes of a field in the row of the number `row`, from 0; no byte where there is no such row. Of a field
+/// that the sheet has not, they are those of column 0. No memory.
 pub fn text_in(sheet: &Sheet, field: u32, row: usize) -> &[u8]
     ensures { result.now ≡ text_in sheet.now field row }
 {

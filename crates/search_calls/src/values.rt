@@ -106,7 +106,7 @@ fn has_bad(row: &Row) -> bool
 
 // The values that the record is given at the fields that the search changes. The first choice is the donor's
 // value; without a donor it is 0, or the first code. The inner `Err` is answered if a number leaves the range
-// while values are given, and says which, or if memory is refused then. The outer one is
+// while values are given, and says where, or if memory is refused then. The outer one is
 // `CallFault::NoChange` if the search finds no change, or want of memory before that.
 fn gift_of(
     alloc: Global,

@@ -89,9 +89,9 @@ pub fn measured_told(
 }
 
 // Reads the record file of these bytes, and finds the nearest donors for the record that is asked for.
-// `CallFault::Path` and `Field` where the path or the class field is none, and `Number` where a number
-// has more than 32 bits. `Record` where the file has no reading; else the faults are those of
-// `nearest_donors`.
+// `CallFault::Path` where the text is no path, and `Field` where no field has the name of the class
+// field. `Number` where a number has more than 32 bits. `Record` where the file has no reading; else the
+// faults are those of `nearest_donors`.
 fn find_donors(
     alloc: Global,
     survey: &Survey,

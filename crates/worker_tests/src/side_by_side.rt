@@ -106,8 +106,8 @@ struct Seen {
 }
 
 // Edits the records of a file by the rules of another, both given as bytes, with `workers` workers and this
-// gate. It gives what became of the records, the history of claims and the pool. Each record ranks one donor, and each donor is given once.
-// Bytes without a reading are answered as refused memory.
+// gate. It gives what became of the records, the history of claims and the pool. Each record ranks one donor,
+// and each donor is given once at most. Bytes without a reading are answered as refused memory.
 fn edit_bytes<R: Threads + Wait + Sync, G: Gate>(
     rt: &R,
     alloc: Global,

@@ -1,7 +1,7 @@
 //! The lines of a whole proof file, read from the first to the last: version, limits, verdicts, table,
 //! records, claims and end. Each `next_..` call reads a part at the front of the lines that are left, and
-//! takes its lines. Each `read_behind_..` call has the parts before and reads all that follows them. The
-//! other `read_..` calls read the words of one line, and each `take_..` call some first words.
+//! takes its lines. Each `read_behind_..` call has the parts before and reads all that follows them. But for
+//! `read_file`, the other `read_..` calls read the words of one line, and each `take_..` call some first words.
 //! `shared` is the number of the lines of the rules, behind which those of a table are numbered, or None
 //! without a table.
 //!
