@@ -6,6 +6,7 @@ use edit_commands::fh_main;
 use edit_desk::{FileDesk, OutPrinter};
 use record_workers::NoGate;
 use run_parts::{Status, refuse_words, words_after_program_name};
+use std::env;
 use std::process::ExitCode;
 
 // Reads the words after the program's name, has them served, and ends the process with the number of the
@@ -20,7 +21,7 @@ fn main(rt: HostRuntime) -> ExitCode {
         return ExitCode::from(Status::OutOfMemory.number());
     };
     let mut printer = OutPrinter::new(out);
-    let status = match words_after_program_name(&rt) {
+    let status = match words_after_program_name(alloc, env::args(&rt)) {
         Ok(words) => fh_main(
             &rt,
             alloc,
