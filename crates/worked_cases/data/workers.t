@@ -42,6 +42,29 @@ Clean records are drawn by one worker or another, and nothing is changed. The ca
   $ forxainde check --rules rules --records records --released released --proof proof
   valid records 2 released 2
 
+Workers work at once, each under a number of its own: none goes on with the first record that it drew before all others drew one, too.
+
+  $ cat >records <<EOF
+  > A
+  > 1
+  > 2
+  > 3
+  > 4
+  > EOF
+  $ meet 2
+  $ forxainde edit --rules rules --records records --released released --reasons reasons --proof proof --workers 2
+  records 4 clean 4 changed 0 unresolved 0 weight 0
+  claims 0 given 0
+  $ meet 4
+  $ forxainde edit --rules rules --records records --released released --reasons reasons --proof proof --workers 4
+  records 4 clean 4 changed 0 unresolved 0 weight 0
+  claims 0 given 0
+  $ meet 3
+  $ forxainde classed --rules rules --records records --released released --reasons reasons --proof proof --workers 3 --class A
+  fault: class A
+  [11]
+  not met
+
 One record claims a donor. The three files are the same for each order in which the workers go.
 
   $ cat >rules <<EOF

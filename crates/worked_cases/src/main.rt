@@ -3,6 +3,7 @@
 #![tactic(auto)]
 
 mod asked;
+mod meeting;
 mod own;
 mod places;
 mod runs;

@@ -1,5 +1,5 @@
 //! The commands of `worked_cases`, beside those of files: runs of the program, what its words ask for,
-//! what is to fail, and where a text stands in a file.
+//! what is to fail, which workers meet, and where a text stands in a file.
 
 use case_files::{Role, number_of};
 use edit_desk::Failure;
@@ -16,6 +16,8 @@ pub enum Own<'a> {
     FailCall { failure: Failure },
     /// `fail line N`: in the next run the N-th printed line fails, from 1.
     FailLine { number: u64 },
+    /// `meet N`: in the next run N workers wait for each other, each with a record that it drew.
+    Meet { workers: u32 },
     /// `calls`: shows the calls of the desk in the last run.
     Calls,
     /// `grep -oF TEXT NAME`: shows at how many places of the file the text stands.
@@ -37,6 +39,9 @@ impl<'a> Own<'a> {
             }),
             ["fail", "line", number] => Some(Own::FailLine {
                 number: number_of(number)?,
+            }),
+            ["meet", workers] => Some(Own::Meet {
+                workers: u32::try_from(number_of(workers)?).ok()?,
             }),
             ["calls"] => Some(Own::Calls),
             ["grep", "-oF", text, name] => Some(Own::Places {

@@ -1,7 +1,8 @@
-//! Runs of the program over files in memory, with calls of the desk and printed lines that fail where a
-//! case asks for that.
+//! Runs of the program over files in memory, with calls of the desk and printed lines that fail, and workers
+//! that wait for each other, where a case asks for that.
 
 use crate::asked::asked_line;
+use crate::meeting::Meeting;
 use crate::own::Own;
 use crate::places::places_shown;
 use case_files::{Commands, Files, Role, spelled_lines};
@@ -9,28 +10,30 @@ use edit_commands::fh_main;
 use edit_desk::{Call, Failure, MemoryDesk, MemoryPrinter};
 use foundation::OutOfMemory;
 use page_command::page_main;
-use record_workers::NoGate;
 use std::alloc::{AllocError, Global};
 use std::mem;
 use std::sync::Wait;
 use std::thread::Threads;
 
 /// What is kept from one command to the next. `failures` are the calls of the desk that are to fail in
-/// the next run. `failing_line` is the number, from 1, of the printed line that is to fail. `calls` are
-/// the lines that tell what the last run asked of the desk.
+/// the next run. `failing_line` is the number, from 1, of the printed line that is to fail. `meeting` is how
+/// many workers are to wait for each other. `calls` are the lines that tell what the last run asked of the
+/// desk.
 #[derive(Drop)]
 pub struct Runs {
     failures: Vec<Failure>,
     failing_line: Option<u64>,
+    meeting: u32,
     calls: Vec<Vec<u8>>,
 }
 
 impl Commands for Runs {
-    // At the beginning of a file nothing is to fail, and there was no run.
+    // At the beginning of a file nothing is to fail, nobody is to meet, and there was no run.
     fn start(alloc: Global) -> Self {
         Runs {
             failures: Vec::new(alloc),
             failing_line: None,
+            meeting: 0,
             calls: Vec::new(alloc),
         }
     }
@@ -60,6 +63,10 @@ impl Commands for Runs {
                 self.failing_line = Some(number);
                 Ok(Vec::new(alloc))
             }
+            Some(Own::Meet { workers }) => {
+                self.meeting = workers;
+                Ok(Vec::new(alloc))
+            }
             Some(Own::Run { words }) => self.run_command_line(rt, alloc, files, words),
             Some(Own::Words { words }) => words_told(alloc, words),
             Some(Own::Calls) => copy_lines(alloc, &self.calls),
@@ -71,8 +78,8 @@ impl Commands for Runs {
 impl Runs {
     // Runs the program with these words, over the files, as `forxainde WORD ..` asks: that of pages where
     // the first word is `page`. The output is what it prints and, where it is not 0, its status in
-    // brackets. The failures that were asked for are used up by it, and the calls of its desk are kept
-    // for `calls`.
+    // brackets; then `not met`, where workers were to meet and did not. The failures and the meeting that
+    // were asked for are used up by it, and the calls of its desk are kept for `calls`.
     fn run_command_line<R: Threads + Wait + Sync>(
         &mut self,
         rt: &R,
@@ -83,12 +90,13 @@ impl Runs {
         let words = copy_words(alloc, words)?;
         let failures = mem::replace(&mut self.failures, Vec::new(alloc));
         let mut printer = MemoryPrinter::new(alloc, self.failing_line.take())?;
+        let gate = Meeting::of(alloc, mem::replace(&mut self.meeting, 0))?;
         let mut desk = MemoryDesk::new(alloc, files.take(alloc), failures);
         let status = match words.first() {
             Some(word) if word.as_str() == "page" => {
                 page_main(alloc, &words, &mut desk, &mut printer)
             }
-            _ => fh_main(rt, alloc, &words, &mut desk, &mut printer, &NoGate),
+            _ => fh_main(rt, alloc, &words, &mut desk, &mut printer, &gate),
         };
         let status = status.number();
         self.calls = call_lines(alloc, desk.calls())?;
@@ -96,6 +104,9 @@ impl Runs {
         let mut lines = spelled_lines(alloc, printer.text())?;
         if status != 0 {
             lines.push(format!(in alloc; "[{status}]")?.into_bytes())?;
+        }
+        if !gate.is_met() {
+            lines.push(format!(in alloc; "not met")?.into_bytes())?;
         }
         Ok(lines)
     }
