@@ -14,9 +14,9 @@ ghost use Rattle.record_ends.specs.Said.{Says};
 ghost use Rattle.record_editing.specs.Donations.{AreDonations, AreInOrder, AreTerms};
 ghost use Rattle.edit_release.specs.Releases.{AllGiven, HasGuarantee, IsReleaseOf};
 
+use crate::edited_sheet::EditedSheet;
 use crate::proof::proof_of;
 use crate::release::Release;
-use donor_book::Entry;
 use donor_measure::Measure;
 use edit_model::{Survey, Value};
 use edit_report::{RowEnd, reasons_text, released_text, summary_text};
@@ -24,8 +24,7 @@ use foundation::OutOfMemory;
 use proof_sharing::share_lines;
 use proof_text::write_proof;
 use pruned_rules::prune_rules;
-use record_editing::{Edited, Terms, edit_records};
-use record_pieces::Rest;
+use record_editing::{Terms, edit_records};
 use record_text::Sheet;
 use record_workers::Gate;
 use redundancy::Verdict;
@@ -67,43 +66,41 @@ pub fn edit_sheet<
     let edited = edit_records(
         rt, alloc, survey, edits, sheet, measure, terms, workers, gate,
     )?;
-    let Edited {
-        ends,
-        history,
-        rest,
-    } = edited;
-    release_of(alloc, &rest, pruned.verdicts, terms, ends, history)
+    release_of(alloc, EditedSheet::of(edited), pruned.verdicts, terms)
 }
 
-// What is released of the records of a sheet, which are edited: the texts of all files and the summary. `rest`
-// has the sheet and its survey. The verdicts are those on the lines of the rules. The ends say what became of
-// each record, in row order, and the history has their claims. Nothing is searched or decided here.
-fn release_of<F>(
+// What is released of a sheet whose records are edited: the texts of all files and the summary. The verdicts
+// are those on the lines of the rules. The ends say what became of each record, in row order, and the history
+// has their claims. Nothing is searched or decided here.
+fn release_of(
     alloc: Global,
-    rest: &Rest<F>,
+    edited: EditedSheet,
     verdicts: Vec<Verdict>,
     terms: Terms,
-    ends: Vec<RowEnd>,
-    history: Vec<Entry>,
 ) -> Result<Release, OutOfMemory>
-    requires read { (bytes : List ℕ) × IsSheet rest.now.survey.fields bytes rest.now.sheet }
+    requires read { (bytes : List ℕ) × IsSheet edited.survey.fields bytes edited.sheet }
     requires terms { AreTerms terms }
-    requires verdicts { verdicts.items ≡ rule_verdicts rest.now.survey }
-    requires ends { AllZip (IsEndOf rest.now.survey (kept_edits rest.now.survey) terms.budget rest.now.sheet.rows)
-        rest.now.sheet.rows ends.items }
-    requires say { AllZip (Says rest.now.survey (kept_edits rest.now.survey) terms.budget) rest.now.sheet.rows ends.items }
-    requires donations { AreDonations rest.now.survey rest.now.sheet.rows terms ends.items history.items }
-    ensures guaranteed { IfOk result (HasGuarantee rest.now.survey rest.now.sheet terms) }
+    requires verdicts { verdicts.items ≡ rule_verdicts edited.survey }
+    requires ends { AllZip (IsEndOf edited.survey (kept_edits edited.survey) terms.budget edited.sheet.rows)
+        edited.sheet.rows edited.ends.items }
+    requires say { AllZip (Says edited.survey (kept_edits edited.survey) terms.budget) edited.sheet.rows edited.ends.items }
+    requires donations { AreDonations edited.survey edited.sheet.rows terms edited.ends.items edited.history.items }
+    ensures guaranteed { IfOk result (HasGuarantee edited.survey edited.sheet terms) }
     ensures edit { IfOk result (λ release. (workers : ℕ) → (workers ≡ 1
-        → AreInOrder rest.now.survey rest.now.sheet.rows terms.class_field ends.items history.items)
-        → IsReleaseOf rest.now.survey rest.now.sheet terms workers release) }
+        → AreInOrder edited.survey edited.sheet.rows terms.class_field edited.ends.items edited.history.items)
+        → IsReleaseOf edited.survey edited.sheet terms workers release) }
 {
-    let Rest { survey, sheet, .. } = rest;
+    let EditedSheet {
+        survey,
+        sheet,
+        ends,
+        history,
+    } = edited;
     let _fields = survey.fields(); // read for what it says: the survey is well formed
     let all = ends.as_slice();
-    let reasons = reasons_text(alloc, sheet, survey, all)?;
-    let released = released_text(alloc, sheet, survey, all)?;
-    let summary = summary_text(alloc, survey, all, &history)?;
+    let reasons = reasons_text(alloc, &sheet, &survey, all)?;
+    let released = released_text(alloc, &sheet, &survey, all)?;
+    let summary = summary_text(alloc, &survey, all, &history)?;
     let whole = are_given(all);
     let told = share_lines(alloc, proof_of(alloc, verdicts, terms, ends, history)?)?;
     let proof = write_proof(alloc, &told)?;

@@ -5,6 +5,7 @@
 #![tactic(auto)]
 
 mod edit;
+mod edited_sheet;
 mod laws;
 mod proof;
 mod release;

@@ -1,4 +1,4 @@
-use Rattle.std.proofs.Common.{subst}
+use Rattle.std.proofs.Common.{◌∙◌, subst}
 use Rattle.std.specs.List.{AllZip}
 use Rattle.std.proofs.lemmas.Result.{IfOk-weaker}
 use Rattle.edit_line.specs.EditSets.{EditsParts}
@@ -13,11 +13,15 @@ edit_records-requires-clause-rows g c κs within = rows_are_records c.args.surve
 pub release_of-requires-clause-say : goal.release_of-requires-clause-say
 release_of-requires-clause-say g c =
     let made = c.in_ok-edited.ensures in
+    let of = c.of.ensures in
     let SaysAll : EditsParts → Type 0 = λ edits. AllZip (Says c.args.survey edits c.args.terms.budget) c.args.sheet.rows c.in_ok-edited.edited.ends.items in
-    rw (made.survey, made.sheet) (subst SaysAll c.in_ok-edits.ensures.edits made.say)
+    rw (of.survey ∙ made.survey, of.sheet ∙ made.sheet, of.ends) (subst SaysAll c.in_ok-edits.ensures.edits made.say)
 
 pub returns-clause-edit : goal.returns-clause-edit
 returns-clause-edit g c =
     let made = c.in_ok-edited.ensures in
+    let of = c.of.ensures in
+    let survey = of.survey ∙ made.survey in
+    let sheet = of.sheet ∙ made.sheet in
     IfOk-weaker c.release_of.result _ (IsReleaseOf c.args.survey c.args.sheet c.args.terms c.args.workers)
-    (λ release of. rw (← made.survey, ← made.sheet) (of c.args.workers (rw (made.survey, made.sheet) made.order))) c.release_of.ensures.edit
+    (λ release is. rw (← survey, ← sheet) (is c.args.workers (rw (survey, sheet, of.ends, of.history) made.order))) c.release_of.ensures.edit

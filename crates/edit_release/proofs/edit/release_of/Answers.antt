@@ -12,28 +12,28 @@ use Rattle.edit_release.proofs.TextLaws.{each-tellable, ends-tellable}
 use Rattle.edit_release.proofs.edit.release_of.Goals as goal
 
 pub reasons_text-requires-clause-ends : goal.reasons_text-requires-clause-ends
-reasons_text-requires-clause-ends g c =
-    let survey = c.args.rest.now.survey in
-    rw c.as_slice-all.ensures.value (ends-tellable survey (kept_edits survey) c.args.terms.budget c.args.rest.now.sheet c.args.ends.items c.requires.ends)
+reasons_text-requires-clause-ends c =
+    let survey = c.args.edited.survey in
+    rw c.as_slice-all.ensures.value (ends-tellable survey (kept_edits survey) c.args.terms.budget c.args.edited.sheet c.args.edited.ends.items c.requires.ends)
 
 pub released_text-requires-clause-ends : goal.released_text-requires-clause-ends
-released_text-requires-clause-ends g c =
-    let survey = c.args.rest.now.survey in
-    rw c.as_slice-all.ensures.value (ends-tellable survey (kept_edits survey) c.args.terms.budget c.args.rest.now.sheet c.args.ends.items c.requires.ends)
+released_text-requires-clause-ends c =
+    let survey = c.args.edited.survey in
+    rw c.as_slice-all.ensures.value (ends-tellable survey (kept_edits survey) c.args.terms.budget c.args.edited.sheet c.args.edited.ends.items c.requires.ends)
 
 pub summary_text-requires : goal.summary_text-requires
-summary_text-requires g c =
-    let survey = c.args.rest.now.survey in
-    let rows = c.args.rest.now.sheet.rows in
-    rw c.as_slice-all.ensures.value (each-tellable survey (kept_edits survey) c.args.terms.budget rows rows c.args.ends.items c.requires.ends)
+summary_text-requires c =
+    let survey = c.args.edited.survey in
+    let rows = c.args.edited.sheet.rows in
+    rw c.as_slice-all.ensures.value (each-tellable survey (kept_edits survey) c.args.terms.budget rows rows c.args.edited.ends.items c.requires.ends)
 
 pub returns : goal.returns
-returns g c =
-    let survey = c.args.rest.now.survey in
-    let sheet = c.args.rest.now.sheet in
+returns c =
+    let survey = c.args.edited.survey in
+    let sheet = c.args.edited.sheet in
     let terms = c.args.terms in
-    let ends = c.args.ends.items in
-    let history = c.args.history.items in
+    let ends = c.args.edited.ends.items in
+    let history = c.args.edited.history.items in
     let all = c.as_slice-all.ensures.value in
     let release : Release = record {
       proof = c.in_ok-proof.proof;
