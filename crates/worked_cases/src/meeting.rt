@@ -5,12 +5,12 @@ use std::alloc::{AllocError, Global};
 use std::sync::atomic::{AtomicU64, Ordering};
 use std::thread;
 
-/// How often a worker looks for the others before it goes on without them.
-const TURNS: u32 = 100_000_000;
+/// How often a worker looks for the others before it goes on without them: for some seconds.
+const TURNS: u32 = 10_000_000;
 
-/// A gate at which workers wait, with each record that they draw, until each worker of the numbers 0, 1, and so
+/// A gate at which workers wait, with the record that they drew, until each worker of the numbers 0, 1, and so
 /// on has drawn one, as many as there are places. A place is 1 once its worker came, and 0 before. `missed` is 1
-/// once a worker went on without the others.
+/// once a worker went on without the others; from then on nobody waits.
 #[derive(Drop)]
 pub struct Meeting {
     places: Vec<AtomicU64>,
@@ -32,7 +32,12 @@ impl Meeting {
 
     /// Whether all workers came before any of them went on. So it is where nobody has to come.
     pub fn is_met(&self) -> bool {
-        self.have_come() && self.missed.load(Ordering::SeqCst) == 0
+        self.have_come() && !self.is_missed()
+    }
+
+    // Whether a worker went on without the others.
+    fn is_missed(&self) -> bool {
+        self.missed.load(Ordering::SeqCst) == 1
     }
 
     // Whether each worker has come.
@@ -49,10 +54,11 @@ impl Meeting {
         }
     }
 
-    // Waits until all workers have come, and tells whether they did before it looked too often.
+    // Waits until all workers have come or one has gone on without them, and tells whether it did before it
+    // looked too often.
     fn waits(&self) -> bool {
         for _ in 0..TURNS {
-            if self.have_come() {
+            if self.have_come() || self.is_missed() {
                 return true;
             }
             thread::yield_now();
@@ -62,7 +68,7 @@ impl Meeting {
 }
 
 impl Gate for Meeting {
-    // Keeps the worker until all have come, or until it has looked for them too often.
+    // Keeps the worker until all have come, or until one has looked for them too often.
     fn at(&self, worker: u32, _row_no: u32) {
         self.note(worker);
         if !self.waits() {
