@@ -1,5 +1,5 @@
 use Rattle.std.proofs.Common.{◌≡◌, ◌++◌, ◌-◌, ◌<◌, ◌≤◌, ℕ, zero, suc, Bool, true, false, if◌then◌else◌, List, [], ◌∷◌, Option, length, refl, take}
-use Rattle.std.proofs.Common.{sym, ap, subst, ◌∙◌, arith}
+use Rattle.std.proofs.Common.{append_assoc, sym, ap, subst, ◌∙◌, arith}
 use Rattle.std.proofs.Math.Seq.{take-append_seam}
 use Rattle.bound_cert.specs.declared.cert.Leaf.{Leaf}
 use Rattle.bound_cert.specs.declared.cert.LeafWhy.TheVariants as why
@@ -15,8 +15,11 @@ use Rattle.edit_paths.specs.declared.state.PathState.TheVariants.{ClosedBad, Clo
 use Rattle.edit_paths.proofs.ChildLaws.{child-before}
 use Rattle.edit_paths.proofs.LetterLaws.{longer}
 use Rattle.path_walk.specs.Bases.{IsKnownBasis}
-use Rattle.path_walk.specs.Lists.{HasLists, HasListsBefore}
+use Rattle.path_walk.specs.Lists.{HasLists, HasListsBefore, HasMore}
 use Rattle.path_walk.specs.declared.looks.Basis.{Basis}
+use Rattle.path_walk.specs.inner.Histories.{LeadTo}
+use Rattle.path_walk.proofs.LeadLaws.{leads-to}
+use Rattle.localise_tree.specs.inner.Takens.{AddsClosed, leaves_below}
 
 -- The leaves of a tree from a path on, by what is known of the path.
 
@@ -82,6 +85,34 @@ module _ (c : SearchCase) (taken : List (List Bool)) (path : List Bool) where
       open_is (ClosedBox i) h = absurd (cc)
       open_is (Overflows e) h = absurd (cc)
 
+-- ---- the leaves that a walk appends, where its letters are this path
+
+module _ (c : SearchCase) (taken : List (List Bool)) (path letters : List Bool) (same : letters ≡ path) (before after : List Leaf) where
+  -- the leaf of a path that was not taken
+  pub adds-unknown : has_path taken path ≡ false → after ≡ before ++ leaf letters why.Bound → after ≡ before ++ leaves_below c taken path
+  adds-unknown other added =
+      added ∙ ap (λ (p : List Bool). before ++ leaf p why.Bound) same
+      ∙ ap (λ (ls : List Leaf). before ++ ls) (sym (leaves-unknown c taken path (field_count c - length path) other))
+
+  -- that of a path that is not gone on with
+  pub adds-last : (s : PathState) (grown levels : List Level) → levels ≡ grown → has_path taken path ≡ true → state_of c path ≡ s
+      → (is_open s ≡ true → field_count c - length path ≡ 0) → HasLists c path grown → AddsClosed letters s levels before after
+      → after ≡ before ++ leaves_below c taken path
+  adds-last s grown levels is has state end lists adds =
+      subst (λ (p : List Bool). AddsClosed p s levels before after) same adds c
+      (subst (λ (ls : List Level). LeadTo c path s ls) (sym is) (leads-to c path s grown state lists))
+      ∙ ap (λ (ls : List Leaf). before ++ ls) (leaves-last c taken path (field_count c - length path) s has state end)
+
+-- those below an open path, of one path with one letter more and then of the other
+pub adds-both : (c : SearchCase) (taken : List (List Bool)) (path first second : List Bool) (s : PathState) (before middle after : List Leaf)
+    → has_path taken path ≡ true → state_of c path ≡ s → is_open s ≡ true → length path < field_count c → first ≡ path ++ false ∷ []
+    → second ≡ path ++ true ∷ [] → middle ≡ before ++ leaves_below c taken first → after ≡ middle ++ leaves_below c taken second
+    → after ≡ before ++ leaves_below c taken path
+adds-both c taken path first second s before middle after has state stays few kept changed one two =
+    two ∙ ap (λ (ls : List Leaf). ls ++ leaves_below c taken second) one
+    ∙ append_assoc before (leaves_below c taken first) (leaves_below c taken second)
+    ∙ ap (λ (ls : List Leaf). before ++ ls) (leaves-both c taken path first second s has state stays few kept changed)
+
 -- the letters without the last one
 pub popped : (letters before after : List Bool) (b : Bool) (n : ℕ) → n ≡ length before → before ≡ letters ++ b ∷ [] → after ≡ take (n - 1) before
     → after ≡ letters
@@ -89,6 +120,11 @@ popped letters before after b n count pushed rest =
     rest ∙ ap (λ (p : List Bool). take (n - 1) p) pushed
     ∙ ap (λ m. take m (letters ++ b ∷ [])) (omega (arith, count, ap (λ (p : List Bool). length p) pushed, longer letters b))
     ∙ take-append_seam letters (b ∷ [])
+
+-- the lists without those that were added
+pub cut : (before grown now after : List Level) (n : ℕ) → n ≡ length before → HasMore before grown → now ≡ grown → after ≡ take n now → after ≡ before
+cut before grown now after n count (more, added) same rest =
+    rest ∙ ap (λ (ls : List Level). take n ls) (same ∙ added) ∙ ap (λ m. take m (before ++ more)) count ∙ take-append_seam before more
 
 -- ---- what the paths with one letter more have of the path
 

@@ -59,7 +59,7 @@ module _ (c : SearchCase) (budget spent : ℕ) (taken : List (List Bool)) (path 
 -- ---- the basis that is kept
 
 -- the same basis is as right
-same-basis : (c : SearchCase) (path : List Bool) (first second : Basis) → IsSame first second → IsBasis c path first → IsBasis c path second
+pub same-basis : (c : SearchCase) (path : List Bool) (first second : Basis) → IsSame first second → IsBasis c path first → IsBasis c path second
 same-basis c path (Lines a) (Lines b) same is = (is.0, subst (λ h. IsPathSystem c path h) (sym same) is.1)
 same-basis c path (Boxes a) (Boxes b) same is = (is.0, same ∙ is.1)
 same-basis c path (Lines a) (Boxes b) same is = absurd same
@@ -144,7 +144,17 @@ module _ (c : SearchCase) (budget spent : ℕ) (taken : List Taken) (ends rest :
         within = omega (arith, fits, running.within);
       }
 
+-- the first of the ends, and the others
+pub first-node : (c : SearchCase) (ends rest : List Node) (node : Node) → ends ≡ node ∷ rest → AllByRecursion (IsNode c) ends
+    → IsNode c node × AllByRecursion (IsNode c) rest
+first-node c ends rest node is are = subst (λ (ns : List Node). AllByRecursion (IsNode c) ns) is are
+
 -- ---- what the source keeps
+
+-- the system of the path before the first end, and of those before the others
+pub first-kept : (c : SearchCase) (keeps : ℕ → Bool) (ends rest : List Node) (node : Node) → ends ≡ node ∷ rest → AreKept keeps c ends
+    → KeepsChanged keeps c (before_last node.path) × AreKept keeps c rest
+first-kept c keeps ends rest node is are = subst (λ (ns : List Node). AreKept keeps c ns) is are
 
 -- it keeps what it kept before
 pub kept-later : (c : SearchCase) (first second : ℕ → Bool) → ((f : ℕ) → first f ≡ true → second f ≡ true) → (ends : List Node) → AreKept first c ends

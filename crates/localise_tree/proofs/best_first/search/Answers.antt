@@ -1,15 +1,16 @@
-use Rattle.std.proofs.Common.{◌≡◌, ◌≤◌, ◌-◌, ◌++◌, [], ◌∷◌, Bool, List, Option, IfSome, ap, ◌∙◌, subst, arith}
+use Rattle.std.proofs.Common.{◌≡◌, ◌≤◌, ◌-◌, ◌++◌, [], ◌∷◌, Bool, List, Option, IfSome, ap, ◌∙◌, sym, subst, arith}
+use Rattle.std.specs.List.{AllByRecursion}
 use Rattle.bound_cert.specs.declared.outcome.Outcome.TheVariants as outcome
 use Rattle.edit_paths.specs.declared.state.PathState.TheVariants.{Open}
 use Rattle.path_walk.specs.KeptFields.{KeepsChanged}
 use Rattle.path_walk.specs.Looks.{IsLook}
 use Rattle.path_walk.specs.Problems.{case_in}
 use Rattle.path_walk.specs.declared.looks.Look.{Look}
-use Rattle.localise_tree.specs.declared.ends.Node.{Node}
-use Rattle.localise_tree.specs.inner.Nodes.{AreKept}
-use Rattle.localise_tree.specs.inner.Takens.{taken_paths}
+use Rattle.localise_tree.specs.declared.best_first.Taken.{Taken}
+use Rattle.localise_tree.specs.inner.Takens.{IsTaken, taken_paths}
 use Rattle.localise_tree.proofs.PlaceLaws.{rest-order}
-use Rattle.localise_tree.proofs.SearchLaws.{change-kept, kept-basis, kept-later, none-is, none-of, path-later, run-budget, run-ends, run-less, run-turn}
+use Rattle.localise_tree.proofs.SearchLaws.{change-kept, first-kept, first-node, kept-basis, kept-later, none-is, none-of, path-later}
+use Rattle.localise_tree.proofs.SearchLaws.{run-budget, run-ends, run-less, run-turn}
 use Rattle.localise_tree.proofs.best_first.search.Goals as goal
 
 pub returns-in_default-2-clause-exact : goal.returns-in_default-2-clause-exact
@@ -49,8 +50,8 @@ loop-node-preserved g c =
     × (look.work ≤ c.args.budget - c.loop-node.spent))) c.in-Some-2.is c.in_ok-look.ensures.look in
     let kept = subst (λ (o : Option Look). IfSome o (λ look. look.state ≡ Open
     → KeepsChanged (g.S.Systems.keeps c.look_into.new.source) (case_in c.args.problem.now) c.in-Some.node.path)) c.in-Some-2.is c.in_ok-look.ensures.kept in
-    let rest = (subst (λ (ns : List Node). AreKept (g.S.Systems.keeps c.loop-node.source) (case_in c.args.problem.now) ns) c.in-Some.ensures.some
-    c.loop-node.invariant.1).1 in (
+    let rest = (first-kept (case_in c.args.problem.now) (g.S.Systems.keeps c.loop-node.source) c.loop-node.ends.items c.take_first.new.ends.items
+    c.in-Some.node c.in-Some.ensures.some c.loop-node.invariant.1).1 in (
       run-turn (case_in c.args.problem.now) c.args.budget c.loop-node.spent c.loop-node.taken.items c.loop-node.ends.items c.take_first.new.ends.items
           c.in-Some.node c.loop-node.invariant.0 c.in-Some.ensures.some c.in-Some-2.look.work c.in-Some-2.look.state c.deref.result.now c.in_ok-outcome.field-0
           look.0.work look.1 look.0.state c.deref.ensures.value c.in_ok-outcome.ensures.end c.lead_on.new.ends.items c.in_ok-lead_on.ensures.paths
@@ -73,3 +74,134 @@ pub lead_on-requires-clause-order : goal.lead_on-requires-clause-order
 lead_on-requires-clause-order g c =
     rest-order (case_in c.args.problem.now) c.loop-node.ends.items c.take_first.new.ends.items c.in-Some.node c.in-Some.ensures.some
     c.loop-node.invariant.0.searching.sorted
+
+pub look_into-requires-clause-fit : goal.look_into-requires-clause-fit
+look_into-requires-clause-fit g c =
+    (first-node (case_in c.args.problem.now) c.loop-node.ends.items c.take_first.new.ends.items c.in-Some.node c.in-Some.ensures.some
+    c.loop-node.invariant.0.nodes).0.fit
+
+pub look_into-requires-clause-reached : goal.look_into-requires-clause-reached
+look_into-requires-clause-reached g c =
+    (first-node (case_in c.args.problem.now) c.loop-node.ends.items c.take_first.new.ends.items c.in-Some.node c.in-Some.ensures.some
+    c.loop-node.invariant.0.nodes).0.reached
+
+pub look_into-requires-clause-basis : goal.look_into-requires-clause-basis
+look_into-requires-clause-basis g c =
+    (first-node (case_in c.args.problem.now) c.loop-node.ends.items c.take_first.new.ends.items c.in-Some.node c.in-Some.ensures.some
+    c.loop-node.invariant.0.nodes).0.basis
+
+pub look_into-requires-clause-before : goal.look_into-requires-clause-before
+look_into-requires-clause-before g c =
+    (first-kept (case_in c.args.problem.now) (g.S.Systems.keeps c.loop-node.source) c.loop-node.ends.items c.take_first.new.ends.items c.in-Some.node
+    c.in-Some.ensures.some c.loop-node.invariant.1).0
+
+pub end_by-requires-clause-taken : goal.end_by-requires-clause-taken
+end_by-requires-clause-taken g c =
+    subst (λ (ts : List Taken). AllByRecursion (IsTaken (case_in c.args.problem.now)) ts) (sym c.deref.ensures.value) c.loop-node.invariant.0.taken_are
+
+pub end_by-requires-clause-node : goal.end_by-requires-clause-node
+end_by-requires-clause-node g c =
+    (first-node (case_in c.args.problem.now) c.loop-node.ends.items c.take_first.new.ends.items c.in-Some.node c.in-Some.ensures.some
+    c.loop-node.invariant.0.nodes).0
+
+pub lead_on-requires-clause-node : goal.lead_on-requires-clause-node
+lead_on-requires-clause-node g c =
+    (first-node (case_in c.args.problem.now) c.loop-node.ends.items c.take_first.new.ends.items c.in-Some.node c.in-Some.ensures.some
+    c.loop-node.invariant.0.nodes).0
+
+pub lead_on-requires-clause-look : goal.lead_on-requires-clause-look
+lead_on-requires-clause-look g c =
+    (subst (λ (o : Option Look). IfSome o (λ look. IsLook (case_in c.args.problem.now) c.in-Some.node.path look
+    × (look.work ≤ c.args.budget - c.loop-node.spent))) c.in-Some-2.is c.in_ok-look.ensures.look).0
+
+pub lead_on-requires-clause-ends : goal.lead_on-requires-clause-ends
+lead_on-requires-clause-ends g c =
+    (first-node (case_in c.args.problem.now) c.loop-node.ends.items c.take_first.new.ends.items c.in-Some.node c.in-Some.ensures.some
+    c.loop-node.invariant.0.nodes).1
+
+pub returns-in_err-look-clause-serves : goal.returns-in_err-look-clause-serves
+returns-in_err-look-clause-serves g c e h = c.look_into.ensures.serves e (c.loop-node.invariant.2 e (c.first_end.ensures.serves e h))
+
+pub returns-in_err-look-clause-keeps : goal.returns-in_err-look-clause-keeps
+returns-in_err-look-clause-keeps g c f h = c.look_into.ensures.keeps f (c.loop-node.invariant.3 f (c.first_end.ensures.keeps f h))
+
+pub returns-in_err-look-clause-counts : goal.returns-in_err-look-clause-counts
+returns-in_err-look-clause-counts g c = omega (arith, c.first_end.ensures.counts, c.loop-node.invariant.4, c.look_into.ensures.counts)
+
+pub returns-in_default-2-clause-serves : goal.returns-in_default-2-clause-serves
+returns-in_default-2-clause-serves g c e h = c.look_into.ensures.serves e (c.loop-node.invariant.2 e (c.first_end.ensures.serves e h))
+
+pub returns-in_default-2-clause-keeps : goal.returns-in_default-2-clause-keeps
+returns-in_default-2-clause-keeps g c f h = c.look_into.ensures.keeps f (c.loop-node.invariant.3 f (c.first_end.ensures.keeps f h))
+
+pub returns-in_default-2-clause-counts : goal.returns-in_default-2-clause-counts
+returns-in_default-2-clause-counts g c = omega (arith, c.first_end.ensures.counts, c.loop-node.invariant.4, c.look_into.ensures.counts)
+
+pub returns-in_err-outcome-clause-serves : goal.returns-in_err-outcome-clause-serves
+returns-in_err-outcome-clause-serves g c e h =
+    c.end_by.ensures.serves e (c.look_into.ensures.serves e (c.loop-node.invariant.2 e (c.first_end.ensures.serves e h)))
+
+pub returns-in_err-outcome-clause-keeps : goal.returns-in_err-outcome-clause-keeps
+returns-in_err-outcome-clause-keeps g c f h = c.end_by.ensures.keeps f (c.look_into.ensures.keeps f (c.loop-node.invariant.3 f (c.first_end.ensures.keeps f h)))
+
+pub returns-in_err-outcome-clause-counts : goal.returns-in_err-outcome-clause-counts
+returns-in_err-outcome-clause-counts g c =
+    omega (arith, c.first_end.ensures.counts, c.loop-node.invariant.4, c.look_into.ensures.counts, c.end_by.ensures.counts)
+
+pub returns-in-Some-3-clause-serves : goal.returns-in-Some-3-clause-serves
+returns-in-Some-3-clause-serves g c e h = c.end_by.ensures.serves e (c.look_into.ensures.serves e (c.loop-node.invariant.2 e (c.first_end.ensures.serves e h)))
+
+pub returns-in-Some-3-clause-keeps : goal.returns-in-Some-3-clause-keeps
+returns-in-Some-3-clause-keeps g c f h = c.end_by.ensures.keeps f (c.look_into.ensures.keeps f (c.loop-node.invariant.3 f (c.first_end.ensures.keeps f h)))
+
+pub returns-in-Some-3-clause-counts : goal.returns-in-Some-3-clause-counts
+returns-in-Some-3-clause-counts g c = omega (arith, c.first_end.ensures.counts, c.loop-node.invariant.4, c.look_into.ensures.counts, c.end_by.ensures.counts)
+
+pub returns-in_err-basis-clause-serves : goal.returns-in_err-basis-clause-serves
+returns-in_err-basis-clause-serves g c e h =
+    c.end_by.ensures.serves e (c.look_into.ensures.serves e (c.loop-node.invariant.2 e (c.first_end.ensures.serves e h)))
+
+pub returns-in_err-basis-clause-keeps : goal.returns-in_err-basis-clause-keeps
+returns-in_err-basis-clause-keeps g c f h = c.end_by.ensures.keeps f (c.look_into.ensures.keeps f (c.loop-node.invariant.3 f (c.first_end.ensures.keeps f h)))
+
+pub returns-in_err-basis-clause-counts : goal.returns-in_err-basis-clause-counts
+returns-in_err-basis-clause-counts g c = omega (arith, c.first_end.ensures.counts, c.loop-node.invariant.4, c.look_into.ensures.counts, c.end_by.ensures.counts)
+
+pub returns-in_err-lead_on-clause-serves : goal.returns-in_err-lead_on-clause-serves
+returns-in_err-lead_on-clause-serves g c e h =
+    c.end_by.ensures.serves e (c.look_into.ensures.serves e (c.loop-node.invariant.2 e (c.first_end.ensures.serves e h)))
+
+pub returns-in_err-lead_on-clause-keeps : goal.returns-in_err-lead_on-clause-keeps
+returns-in_err-lead_on-clause-keeps g c f h = c.end_by.ensures.keeps f (c.look_into.ensures.keeps f (c.loop-node.invariant.3 f (c.first_end.ensures.keeps f h)))
+
+pub returns-in_err-lead_on-clause-counts : goal.returns-in_err-lead_on-clause-counts
+returns-in_err-lead_on-clause-counts g c =
+    omega (arith, c.first_end.ensures.counts, c.loop-node.invariant.4, c.look_into.ensures.counts, c.end_by.ensures.counts)
+
+pub returns-in_err-push-clause-serves : goal.returns-in_err-push-clause-serves
+returns-in_err-push-clause-serves g c e h =
+    c.end_by.ensures.serves e (c.look_into.ensures.serves e (c.loop-node.invariant.2 e (c.first_end.ensures.serves e h)))
+
+pub returns-in_err-push-clause-keeps : goal.returns-in_err-push-clause-keeps
+returns-in_err-push-clause-keeps g c f h = c.end_by.ensures.keeps f (c.look_into.ensures.keeps f (c.loop-node.invariant.3 f (c.first_end.ensures.keeps f h)))
+
+pub returns-in_err-push-clause-counts : goal.returns-in_err-push-clause-counts
+returns-in_err-push-clause-counts g c = omega (arith, c.first_end.ensures.counts, c.loop-node.invariant.4, c.look_into.ensures.counts, c.end_by.ensures.counts)
+
+pub returns-in_err-certificate-clause-serves : goal.returns-in_err-certificate-clause-serves
+returns-in_err-certificate-clause-serves g c e h = c.certificate.ensures.serves e (c.loop-node.invariant.2 e (c.first_end.ensures.serves e h))
+
+pub returns-in_err-certificate-clause-keeps : goal.returns-in_err-certificate-clause-keeps
+returns-in_err-certificate-clause-keeps g c f h = c.certificate.ensures.keeps f (c.loop-node.invariant.3 f (c.first_end.ensures.keeps f h))
+
+pub returns-in_err-certificate-clause-counts : goal.returns-in_err-certificate-clause-counts
+returns-in_err-certificate-clause-counts g c = omega (arith, c.first_end.ensures.counts, c.loop-node.invariant.4, c.certificate.ensures.counts)
+
+pub returns-clause-serves : goal.returns-clause-serves
+returns-clause-serves g c e h = c.certificate.ensures.serves e (c.loop-node.invariant.2 e (c.first_end.ensures.serves e h))
+
+pub returns-clause-keeps : goal.returns-clause-keeps
+returns-clause-keeps g c f h = c.certificate.ensures.keeps f (c.loop-node.invariant.3 f (c.first_end.ensures.keeps f h))
+
+pub returns-clause-counts : goal.returns-clause-counts
+returns-clause-counts g c = omega (arith, c.first_end.ensures.counts, c.loop-node.invariant.4, c.certificate.ensures.counts)

@@ -1,12 +1,14 @@
-use Rattle.std.proofs.Common.{◌≡◌, ◌&&◌, [], ◌∷◌, false, true, not, ap, ◌∙◌}
+use Rattle.std.proofs.Common.{◌≡◌, ◌&&◌, [], ◌∷◌, false, true, not, sym, ap, ◌∙◌}
 use Rattle.edit_paths.specs.PathStates.{is_open}
 use Rattle.edit_paths.specs.Paths.{is_complete}
 use Rattle.edit_paths.specs.ReachedPaths.{changed_next, kept_next}
 use Rattle.edit_paths.specs.Walks.{next_paths}
 use Rattle.edit_paths.specs.declared.state.PathState.{PathState}
+use Rattle.path_walk.specs.Bases.{has_basis}
 use Rattle.path_walk.specs.Problems.{case_in}
 use Rattle.localise_tree.proofs.EndLaws.{child-kept, leads-both, leads-open, leads-short, led-kept, led-nodes, led-paths}
 use Rattle.localise_tree.proofs.PlaceLaws.{parted, parted-next}
+use Rattle.localise_tree.proofs.SearchLaws.{same-basis}
 use Rattle.localise_tree.proofs.ends.lead_on.Goals as goal
 
 module _ (c : goal.In_ok-place_end-2) where
@@ -48,3 +50,38 @@ place_end-requires-2 c =
     parted-next (case_in c.args.problem.now) c.args.ends.now.items c.place_end.new.ends.items c.in_ok-kept.kept c.in_ok-changed.changed
     c.in_ok-place_end.ensures
     c.requires.ends c.in_ok-kept.ensures.node c.in_ok-changed.ensures.node c.requires.order
+
+pub child-requires-clause-short : goal.child-requires-clause-short
+child-requires-clause-short c =
+    leads-short (case_in c.args.problem.now) c.args.node.now.path c.args.look.state c.leads_on.result c.requires.node.fit c.leads_on.ensures
+    c.if-not-leads_on.false
+
+pub child-requires-clause-state : goal.child-requires-clause-state
+child-requires-clause-state c =
+    sym c.requires.look.state
+    ∙ leads-open c.args.look.state (is_complete (case_in c.args.problem.now) c.args.node.now.path) c.leads_on.result c.leads_on.ensures
+    c.if-not-leads_on.false
+
+pub child-requires-2-clause-short : goal.child-requires-2-clause-short
+child-requires-2-clause-short c =
+    leads-short (case_in c.args.problem.now) c.args.node.now.path c.args.look.state c.leads_on.result c.requires.node.fit c.leads_on.ensures
+    c.if-not-leads_on.false
+
+pub child-requires-2-clause-state : goal.child-requires-2-clause-state
+child-requires-2-clause-state c =
+    sym c.requires.look.state
+    ∙ leads-open c.args.look.state (is_complete (case_in c.args.problem.now) c.args.node.now.path) c.leads_on.result c.leads_on.ensures
+    c.if-not-leads_on.false
+
+pub child-requires-clause-basis : goal.child-requires-clause-basis
+child-requires-clause-basis c =
+    let opened = leads-open c.args.look.state (is_complete (case_in c.args.problem.now) c.args.node.now.path) c.leads_on.result c.leads_on.ensures
+    c.if-not-leads_on.false in
+    same-basis (case_in c.args.problem.now) c.args.node.now.path c.args.look.basis c.in_ok-share.field-0 c.in_ok-share.ensures
+    (c.requires.look.basis (ap (λ (s : PathState). has_basis s) opened))
+
+pub child-requires-2-clause-basis : goal.child-requires-2-clause-basis
+child-requires-2-clause-basis c =
+    let opened = leads-open c.args.look.state (is_complete (case_in c.args.problem.now) c.args.node.now.path) c.leads_on.result c.leads_on.ensures
+    c.if-not-leads_on.false in
+    c.requires.look.basis (ap (λ (s : PathState). has_basis s) opened)

@@ -18,6 +18,15 @@ returns-in_default-clause-exact g c =
     (subst (λ (p : List Bool). w.budget - c.loop-count.work < work_of case p) prefix
     (none-of (w.budget - c.loop-count.work < work_of case c.new-prefix.result) c.in_ok-look.field-0 c.in_default.not-Some c.in_ok-look.ensures.passed))
 
+pub returns-in_default-clause-serves : goal.returns-in_default-clause-serves
+returns-in_default-clause-serves g c = λ e h. c.in_ok-look.ensures.serves e (c.loop-count.invariant.1 e (c.in_ok-before.ensures.serves e h))
+
+pub returns-in_default-clause-keeps : goal.returns-in_default-clause-keeps
+returns-in_default-clause-keeps g c = λ f h. c.in_ok-look.ensures.keeps f (c.loop-count.invariant.2 f (c.in_ok-before.ensures.keeps f h))
+
+pub returns-in_default-clause-counts : goal.returns-in_default-clause-counts
+returns-in_default-clause-counts g c = omega (arith, c.loop-count.invariant.3, c.in_ok-before.ensures.counts, c.in_ok-look.ensures.counts)
+
 pub returns-in-Some-stop_by-clause-exact : goal.returns-in-Some-stop_by-clause-exact
 returns-in-Some-stop_by-clause-exact g c =
     let case = case_in c.args.problem.now in
@@ -28,6 +37,15 @@ returns-in-Some-stop_by-clause-exact g c =
     (g.S.Systems.keeps c.loop-count.source) c.loop-count.count c.loop-count.work c.loop-count.before c.loop-count.levels.items c.loop-count.invariant.0
     (omega (arith, c.loop-count-test.true)) c.in-Some.look
     (subst (λ (p : List Bool). IsLook case p c.in-Some.look) prefix look.0) look.1 c.stop_by.result c.in-Some-stop_by.end c.stop_by.ensures c.in-Some-stop_by.is
+
+pub returns-in-Some-stop_by-clause-serves : goal.returns-in-Some-stop_by-clause-serves
+returns-in-Some-stop_by-clause-serves g c = λ e h. c.in_ok-look.ensures.serves e (c.loop-count.invariant.1 e (c.in_ok-before.ensures.serves e h))
+
+pub returns-in-Some-stop_by-clause-keeps : goal.returns-in-Some-stop_by-clause-keeps
+returns-in-Some-stop_by-clause-keeps g c = λ f h. c.in_ok-look.ensures.keeps f (c.loop-count.invariant.2 f (c.in_ok-before.ensures.keeps f h))
+
+pub returns-in-Some-stop_by-clause-counts : goal.returns-in-Some-stop_by-clause-counts
+returns-in-Some-stop_by-clause-counts g c = omega (arith, c.loop-count.invariant.3, c.in_ok-before.ensures.counts, c.in_ok-look.ensures.counts)
 
 pub returns-in-Some-2-clause-exact : goal.returns-in-Some-2-clause-exact
 returns-in-Some-2-clause-exact g c =
@@ -42,6 +60,15 @@ returns-in-Some-2-clause-exact g c =
     (subst (HasLists case (take c.loop-count.count w.path.now)) (sym c.deref.ensures.value)
     (subst (λ (p : List Bool). HasLists case p c.push_lists.new.levels.items) (c.letters-letters.ensures ∙ prefix) c.in_ok-push_lists.ensures.lists))
     c.in_ok-end.ensures c.in-Some-2.is
+
+pub returns-in-Some-2-clause-serves : goal.returns-in-Some-2-clause-serves
+returns-in-Some-2-clause-serves g c = λ e h. c.in_ok-push_lists.ensures.serves e (c.in_ok-look.ensures.serves e (c.loop-count.invariant.1 e (c.in_ok-before.ensures.serves e h)))
+
+pub returns-in-Some-2-clause-keeps : goal.returns-in-Some-2-clause-keeps
+returns-in-Some-2-clause-keeps g c = λ f h. c.in_ok-push_lists.ensures.keeps f (c.in_ok-look.ensures.keeps f (c.loop-count.invariant.2 f (c.in_ok-before.ensures.keeps f h)))
+
+pub returns-in-Some-2-clause-counts : goal.returns-in-Some-2-clause-counts
+returns-in-Some-2-clause-counts g c = omega (arith, c.loop-count.invariant.3, c.in_ok-before.ensures.counts, c.in_ok-look.ensures.counts, c.in_ok-push_lists.ensures.counts)
 
 pub loop-count-preserved : goal.loop-count-preserved
 loop-count-preserved g c =
@@ -70,3 +97,12 @@ returns-clause-exact g c =
     ends-open (case_in c.args.problem.now) c.args.walk.now.path.now c.args.walk.now.budget c.args.walk.now.spent
     (g.S.Systems.keeps c.loop-count.source) c.loop-count.count c.loop-count.work c.loop-count.before
     c.loop-count.levels.items c.loop-count.invariant.0 (omega (arith, c.loop-count-test.false, c.loop-count.auto.count-end))
+
+pub returns-clause-serves : goal.returns-clause-serves
+returns-clause-serves g c = λ e h. c.loop-count.invariant.1 e (c.in_ok-before.ensures.serves e h)
+
+pub returns-clause-keeps : goal.returns-clause-keeps
+returns-clause-keeps g c = λ f h. c.loop-count.invariant.2 f (c.in_ok-before.ensures.keeps f h)
+
+pub returns-clause-counts : goal.returns-clause-counts
+returns-clause-counts g c = omega (arith, c.loop-count.invariant.3, c.in_ok-before.ensures.counts)
