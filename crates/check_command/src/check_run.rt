@@ -9,22 +9,25 @@
 //! the work on the desk, `kind` says which refusals may come, and `cause` what each says of the files.
 //! `asked` says which calls the desk is asked for, `faults` how its count of faults stands after them, and
 //! `unchanged` that no file is changed.
-ghost use Rattle.std.specs.Prelude.{◌≡◌, ◌≢◌, IfErr, IfOk, IfSome};
+ghost use Rattle.std.specs.Prelude.{◌≡◌, ◌≢◌, ℕ, List, IfErr, IfOk, IfSome};
 ghost use Rattle.edit_desk.specs.Desk.{PutsOnRecord};
+ghost use Rattle.record_text.specs.Sheets.{IsSheet};
+ghost use Rattle.cert_check.specs.Releases.{audit_of};
 ghost use Rattle.check_command.specs.CheckRun.{IsCheckComplete, IsCheckStopped, IsChecked, check_calls, valid_text};
 ghost use Rattle.run_parts.specs.Faults.{IsOfCheck};
 ghost use Rattle.run_parts.specs.Readings.{AnswersDue, IsCheckDue, RefusesCheck};
 ghost use Rattle.run_parts.specs.Run.{ran};
 ghost use Rattle.run_parts.specs.declared.fault.Fault.TheVariants as faults;
-ghost use Rattle.check_command.specs.inner.CheckParts.{Accepts};
+ghost use Rattle.check_command.specs.inner.CheckParts.{Accepts, IsValidLine, RefusesAudit};
 ghost use Rattle.run_parts.specs.Parts.{AreCallsOf, done_end, faults_after};
 
 use cert_check::check_all;
 use command_words::CheckWords;
 use edit_desk::{Desk, Printer};
+use edit_model::Survey;
+use record_text::Sheet;
 use run_parts::{
-    Fault, MOST_BYTES, MOST_PROOF_BYTES, Refusal, Status, fetch_file, fetch_sheet, fetch_survey,
-    refuse, tell,
+    Fault, MOST_BYTES, MOST_PROOF_BYTES, Refusal, Status, fetch_file, fetch_input, refuse, tell,
 };
 use std::alloc::Global;
 
@@ -64,11 +67,26 @@ fn check_files<'a, D: Desk>(
     ensures faults { D.faults desk.new ≡ faults_after result (D.faults desk.old) }
     ensures unchanged { D.files desk.new ≡ D.files desk.old }
 {
-    let survey = fetch_survey(alloc, asked.rules, desk)?;
-    let sheet = fetch_sheet(alloc, asked.records, &survey, desk)?;
+    let input = fetch_input(alloc, asked.rules, asked.records, desk)?;
     let released = fetch_file(alloc, asked.released, MOST_BYTES, desk)?;
     let proof = fetch_file(alloc, asked.proof, MOST_PROOF_BYTES, desk)?;
-    match check_all(alloc, &survey, &sheet, &released, &proof) {
+    check_release(alloc, input, released, proof)
+}
+
+// Audits what was fetched, and lets it go: `input` is the survey and the sheet of its records. It gives the
+// line that is printed of a valid release. Refused where the release is not valid, and for want of memory.
+fn check_release<'a>(
+    alloc: Global,
+    input: (Survey, Sheet),
+    released: Vec<u8>,
+    proof: Vec<u8>,
+) -> Result<Vec<u8>, Refusal<'a>>
+    requires sheet { (bytes : List ℕ) × IsSheet input.0.fields bytes input.1 }
+    ensures valid { IfOk result (λ line. IsValidLine (audit_of input.0 input.1 released.items proof.items) line.items) }
+    ensures refused { IfErr result (RefusesAudit (audit_of input.0 input.1 released.items proof.items)) }
+{
+    let (survey, sheet) = &input;
+    match check_all(alloc, survey, sheet, &released, &proof) {
         Ok(count) => valid_line(alloc, sheet.len(), count),
         Err(fault) => Err(Refusal::of(alloc, Fault::from(fault))),
     }

@@ -192,11 +192,9 @@ released-told r f (Contradictory cert) stop gift told released = tt
 -- ---- the proof that is written
 
 -- its lines are shared after it was made of the verdicts, the terms, the ends and the claims
-pub told-written : (survey : SurveyParts) (terms : Terms) (ends : List RowEnd) (history : List Entry) (verdicts : List Verdict) (own told : Proof)
-    → verdicts ≡ rule_verdicts survey → own ≡ proof_telling verdicts terms ends history → told ≡ shared_proof own → told
-    ≡ written_proof survey terms ends history
-told-written survey terms ends history verdicts own told are telling shared =
-    shared ∙ ap shared_proof telling ∙ ap (λ (vs : List Verdict). shared_proof (proof_telling vs terms ends history)) are
+pub told-written : (survey : SurveyParts) (terms : Terms) (ends : List RowEnd) (history : List Entry) (verdicts : List Verdict)
+    → verdicts ≡ rule_verdicts survey → shared_proof (proof_telling verdicts terms ends history) ≡ written_proof survey terms ends history
+told-written survey terms ends history verdicts are = ap (λ (vs : List Verdict). shared_proof (proof_telling vs terms ends history)) are
 
 -- ---- the release
 
@@ -269,23 +267,22 @@ module _ (survey : SurveyParts) (sheet : SheetParts) (bytes : List ℕ) (terms :
   }
 
   -- the proof that is written has one spelling
-  written-plain : (p : Proof) → p ≡ written_proof survey terms ends history → IsSized p → IsPlain (written_proof survey terms ends history)
-  written-plain p same sized = plain-if (written_proof survey terms ends history) (subst IsSized same sized)
-      (coherent-shared (proof_of survey terms ends history) coherent)
+  written-plain : IsSized (written_proof survey terms ends history) → IsPlain (written_proof survey terms ends history)
+  written-plain sized = plain-if (written_proof survey terms ends history) sized (coherent-shared (proof_of survey terms ends history) coherent)
 
   -- what was written tells of it
-  pub guarantee-of : (release : Release) (p : Proof) → p ≡ written_proof survey terms ends history → IsSized p → release.proof.items ≡ proof_text p
-      → release.released.items ≡ released_text_of survey sheet ends
+  pub guarantee-of : (release : Release) → IsSized (written_proof survey terms ends history)
+      → release.proof.items ≡ proof_text (written_proof survey terms ends history) → release.released.items ≡ released_text_of survey sheet ends
       → HasGuarantee survey sheet terms release
-  guarantee-of release p same sized proof released = record {
+  guarantee-of release sized proof released = record {
     ends = ends;
     history = history;
     guaranteed = guaranteed-of;
     released = released;
     told = written_proof survey terms ends history;
-    proof = proof ∙ ap proof_text same;
+    proof = proof;
     tells = record {
-      plain = written-plain p same sized;
+      plain = written-plain sized;
       limit = refl;
       near = refl;
       budget = refl;
@@ -298,12 +295,13 @@ module _ (survey : SurveyParts) (sheet : SheetParts) (bytes : List ℕ) (terms :
   }
 
   -- and is the edit of the sheet
-  pub release-of : (release : Release) (p : Proof) → p ≡ written_proof survey terms ends history → IsSized p → release.proof.items ≡ proof_text p
+  pub release-of : (release : Release) → IsSized (written_proof survey terms ends history)
+      → release.proof.items ≡ proof_text (written_proof survey terms ends history)
       → release.reasons.items ≡ reasons_text_of survey sheet ends → release.released.items ≡ released_text_of survey sheet ends
       → (written_in release).summary ≡ summary_lines survey ends history → (workers : ℕ)
       → (workers ≡ 1 → AreInOrder survey sheet.rows terms.class_field ends history) → (IsTrue release.whole ↔ AllGiven ends)
       → IsReleaseOf survey sheet terms workers release
-  release-of release p same sized proof reasons released summary workers order whole = record {
+  release-of release sized proof reasons released summary workers order whole = record {
     ends = ends;
     history = history;
     order = order;
@@ -312,17 +310,14 @@ module _ (survey : SurveyParts) (sheet : SheetParts) (bytes : List ℕ) (terms :
       kept = refl;
       each = each;
       donations = donations;
-      proof = text;
+      proof = proof;
       reasons = reasons;
       released = released;
       summary = summary;
       trees = has-trees survey terms ends history sheet.rows shown;
       valid = subst (λ (given : List ℕ). IsValidRelease (audit_of survey sheet given release.proof.items)) (sym released)
-          (subst (λ (told : List ℕ). IsValidRelease (audit_of survey sheet (released_text_of survey sheet ends) told)) (sym text)
-          (release-valid (written-plain p same sized)));
+          (subst (λ (told : List ℕ). IsValidRelease (audit_of survey sheet (released_text_of survey sheet ends) told)) (sym proof)
+          (release-valid (written-plain sized)));
     };
     whole = whole;
   }
-    where
-      text : release.proof.items ≡ proof_text (written_proof survey terms ends history)
-      text = proof ∙ ap proof_text same

@@ -15,14 +15,13 @@ ghost use Rattle.record_editing.specs.Donations.{AreDonations, AreInOrder, AreTe
 ghost use Rattle.edit_release.specs.Releases.{AllGiven, HasGuarantee, IsReleaseOf};
 
 use crate::edited_sheet::EditedSheet;
-use crate::proof::proof_of;
+use crate::proof::proof_file;
 use crate::release::Release;
+use crate::texts::Texts;
 use donor_measure::Measure;
 use edit_model::{Survey, Value};
-use edit_report::{RowEnd, reasons_text, released_text, summary_text};
+use edit_report::RowEnd;
 use foundation::OutOfMemory;
-use proof_sharing::share_lines;
-use proof_text::write_proof;
 use pruned_rules::prune_rules;
 use record_editing::{Terms, edit_records};
 use record_text::Sheet;
@@ -90,20 +89,15 @@ fn release_of(
         → AreInOrder edited.survey edited.sheet.rows terms.class_field edited.ends.items edited.history.items)
         → IsReleaseOf edited.survey edited.sheet terms workers release) }
 {
-    let EditedSheet {
-        survey,
-        sheet,
-        ends,
-        history,
-    } = edited;
-    let _fields = survey.fields(); // read for what it says: the survey is well formed
-    let all = ends.as_slice();
-    let reasons = reasons_text(alloc, &sheet, &survey, all)?;
-    let released = released_text(alloc, &sheet, &survey, all)?;
-    let summary = summary_text(alloc, &survey, all, &history)?;
-    let whole = are_given(all);
-    let told = share_lines(alloc, proof_of(alloc, verdicts, terms, ends, history)?)?;
-    let proof = write_proof(alloc, &told)?;
+    let _fields = edited.survey.fields(); // read for what it says: the survey is well formed
+    let whole = are_given(edited.ends.as_slice());
+    let texts = Texts::of(alloc, &edited)?;
+    let proof = proof_file(alloc, edited, verdicts, terms)?;
+    let Texts {
+        reasons,
+        released,
+        summary,
+    } = texts;
     Ok(Release {
         proof,
         reasons,

@@ -9,6 +9,7 @@ mod edited_sheet;
 mod laws;
 mod proof;
 mod release;
+mod texts;
 
 pub use edit::edit_sheet;
 pub use laws::release_laws;

@@ -2,22 +2,46 @@
 //! the proof says of a record, and `refutation_by` is what it says of a line of the rules.
 ghost use Rattle.std.specs.Prelude.{◌≡◌, [], IfOk, None, map};
 ghost use Rattle.bound_cert.specs.declared.outcome.Outcome.TheVariants.{Change};
+ghost use Rattle.proof_grammar.specs.ProofLines.{proof_text};
+ghost use Rattle.proof_grammar.specs.Sizes.{IsSized};
+ghost use Rattle.proof_sharing.specs.SharedProofs.{shared_proof};
 ghost use Rattle.edit_release.specs.Edits.{proof_telling, refutation_by, said, said_of};
 
+use crate::edited_sheet::EditedSheet;
 use bound_cert::{Cert, Outcome, Path, RowProof};
 use derivation::Step;
 use donor_book::Entry;
 use edit_report::RowEnd;
 use foundation::{OutOfMemory, Sequence};
-use proof_text::Proof;
+use proof_sharing::share_lines;
+use proof_text::{Proof, write_proof};
 use record_editing::Terms;
 use redundancy::Verdict;
 use std::alloc::Global;
 
-/// The proof of an edit on these terms. It tells the verdicts on the lines of the rules, the ends of the
-/// records, and the history of claims. It is of version 1: each tree derives its own lines, and its table
-/// is empty.
-pub(crate) fn proof_of(
+/// The proof file of an edited sheet: the bytes of its proof on these terms, in which a line that several
+/// trees derive is written once.
+pub(crate) fn proof_file(
+    alloc: Global,
+    edited: EditedSheet,
+    verdicts: Vec<Verdict>,
+    terms: Terms,
+) -> Result<Vec<u8>, OutOfMemory>
+    ensures text { IfOk result (λ text. text.items
+        ≡ proof_text (shared_proof (proof_telling verdicts.items terms edited.ends.items edited.history.items))) }
+    ensures sized { IfOk result (λ text.
+        IsSized (shared_proof (proof_telling verdicts.items terms edited.ends.items edited.history.items))) }
+{
+    let EditedSheet { ends, history, .. } = edited;
+    let proof = proof_of(alloc, verdicts, terms, ends, history)?;
+    let proof = share_lines(alloc, proof)?;
+    write_proof(alloc, &proof)
+}
+
+// The proof of an edit on these terms. It tells the verdicts on the lines of the rules, the ends of the
+// records, and the history of claims. It is of version 1: each tree derives its own lines, and its table
+// is empty.
+fn proof_of(
     alloc: Global,
     verdicts: Vec<Verdict>,
     terms: Terms,

@@ -2,9 +2,11 @@
 //! the released file is stored. The clauses of a run say what is stored and printed where it did all
 //! (`filled`), and with which fault it ended elsewhere (`stopped`). They also say that it did all where
 //! nothing stood in the way (`complete`). What is wrong with a file is told exactly where it is so (`due`).
-ghost use Rattle.std.specs.Prelude.{◌≡◌, ◌≢◌, if◌then◌else◌, IfErr, IfSome};
+ghost use Rattle.std.specs.Prelude.{◌≡◌, ◌≢◌, ℕ, List, if◌then◌else◌, IfErr, IfOk, IfSome};
 ghost use Rattle.edit_desk.specs.Desk.{PutsOnRecord, Told};
 ghost use Rattle.fill_command.specs.FillRun.{IsFillComplete, IsFillDue, IsFillRun, IsFillStopped, fill_calls, fill_command, made_of};
+ghost use Rattle.filled_release.specs.FilledFiles.{IsFilledFile};
+ghost use Rattle.record_text.specs.Sheets.{IsSheet};
 ghost use Rattle.run_parts.specs.CommandParts.{CommandEnds, end_of};
 ghost use Rattle.run_parts.specs.Commands.{HasReleased};
 ghost use Rattle.run_parts.specs.Faults.{IsOfEdit};
@@ -14,7 +16,10 @@ ghost use Rattle.run_parts.specs.Run.{ran};
 
 use command_words::FillWords;
 use edit_desk::{Desk, Printer};
+use edit_model::Survey;
 use filled_release::{FilledFile, fill_sheet};
+use foundation::OutOfMemory;
+use record_text::Sheet;
 use run_parts::{Refusal, Status, fetch_input, refuse, store_file, tell};
 use std::alloc::Global;
 
@@ -67,10 +72,20 @@ fn fill<'a, D: Desk>(
     ensures asked { PutsOnRecord (D.calls desk.old) (D.calls desk.new) (AreCallsOf (fill_calls asked.now) result) }
     ensures faults { D.faults desk.new ≡ faults_after result (D.faults desk.old) }
 {
-    let (survey, sheet) = fetch_input(alloc, asked.rules, asked.records, desk)?;
-    let Ok(file) = fill_sheet(alloc, &survey, &sheet, asked.budget) else {
+    let input = fetch_input(alloc, asked.rules, asked.records, desk)?;
+    let Ok(file) = fill_input(alloc, input, asked.budget) else {
         return Err(Refusal::out_of_memory());
     };
     store_file(alloc, asked.released, &file.released, desk)?;
     Ok(file)
+}
+
+// What filling makes of the sheet of the survey's records, which both are let go. `budget` is the most work for
+// each record.
+fn fill_input(alloc: Global, input: (Survey, Sheet), budget: u64) -> Result<FilledFile, OutOfMemory>
+    requires sheet { (bytes : List ℕ) × IsSheet input.0.fields bytes input.1 }
+    ensures filled { IfOk result (IsFilledFile input.0 input.1 budget) }
+{
+    let (survey, sheet) = input;
+    fill_sheet(alloc, &survey, &sheet, budget)
 }

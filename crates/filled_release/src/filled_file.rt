@@ -1,15 +1,15 @@
 //! The file of filled records, and the line that tells of it: each record is filled by itself, by all
 //! rules of the survey. In contracts, `IsFilledFile` says that each record has an answer, and that the file
-//! and the line tell just these. `SayTheRules` says that the edits hold just where all rules do, and
+//! and the line tell just these. `IsFilledTo` says so of the first records. `SayTheRules` says that the edits hold just where all rules do, and
 //! `CanBeWritten` that a filled record is one of these fields.
-ghost use Rattle.std.specs.Prelude.{◌≡◌, ◌<◌, ℕ, List, IfOk};
+ghost use Rattle.std.specs.Prelude.{◌≡◌, ◌<◌, [], ℕ, List, IfOk, length};
 ghost use Rattle.std.specs.Arc.{arc_value};
 ghost use Rattle.edit_line.specs.EditSets.{SayTheRules};
 ghost use Rattle.edit_model.specs.Rows.{IsRow};
 ghost use Rattle.edit_normal.specs.RuleEdits.{rule_edits};
 ghost use Rattle.record_text.specs.Sheets.{IsSheet};
 ghost use Rattle.filled_release.specs.FilledFiles.{IsAnswerFor, IsFilledFile};
-ghost use Rattle.filled_release.specs.inner.FilledRows.{CanBeWritten};
+ghost use Rattle.filled_release.specs.inner.FilledRows.{CanBeWritten, IsFilledTo};
 
 use crate::counts::Counts;
 use crate::filled_row::push_filled;
@@ -50,28 +50,41 @@ pub fn fill_sheet(
     ensures filled { IfOk result (IsFilledFile survey.now sheet.now budget) }
 {
     let edits = Arc::new(alloc, rule_edits(alloc, survey)?)?;
-    let layout = Layout::of_sheet(alloc, sheet)?;
     let mut writer = RecordWriter::new(alloc);
-    writer.push(sheet.header())?;
-    let mut counts = Counts::of_none();
-    for row_no in 0..sheet.len() {
-        let row = sheet.row(row_no);
-        let answer = answer_for::<Brand>(alloc, survey, &edits, row, budget, Blank::new(1))?;
-        push_filled(
-            alloc,
-            &mut writer,
-            survey,
-            &layout,
-            sheet.raw(row_no),
-            &answer,
-        )?;
-        counts.add(&answer);
-    }
+    let counts = fill_rows(alloc, survey, sheet, &edits, budget, &mut writer)?;
     Ok(FilledFile {
         released: writer.into_bytes(),
         summary: counts.summary(alloc)?,
         whole: counts.none_stopped(),
     })
+}
+
+// Writes the header of the sheet, and then each of its records, filled, and counts what became of them. The
+// edits are those of all rules.
+fn fill_rows(
+    alloc: Global,
+    survey: &Survey,
+    sheet: &Sheet,
+    edits: &Arc<Edits>,
+    budget: u64,
+    writer: &mut RecordWriter,
+) -> Result<Counts, OutOfMemory>
+    requires sheet { (bytes : List ℕ) × IsSheet survey.now.fields bytes sheet.now }
+    requires edits { arc_value edits.now ≡ rule_edits survey.now }
+    requires rules { SayTheRules survey.now (arc_value edits.now) }
+    requires empty { writer.old ≡ [] }
+    ensures filled { IfOk result (IsFilledTo survey.now sheet.now budget (length sheet.now.rows) writer.new) }
+{
+    let layout = Layout::of_sheet(alloc, sheet)?;
+    writer.push(sheet.header())?;
+    let mut counts = Counts::of_none();
+    for row_no in 0..sheet.len() {
+        let row = sheet.row(row_no);
+        let answer = answer_for::<Brand>(alloc, survey, edits, row, budget, Blank::new(1))?;
+        push_filled(alloc, writer, survey, &layout, sheet.raw(row_no), &answer)?;
+        counts.add(&answer);
+    }
+    Ok(counts)
 }
 
 // What filling makes of one record: it is done, blocked or stopped. `blank` starts a counter of steps for

@@ -7,7 +7,7 @@ use Rattle.command_words.specs.Asked.{PanelAsked}
 use Rattle.panel_files.specs.LastFields.{AreLastFields, last_fields, own_fields}
 use Rattle.panel_release.specs.PanelReleases.{PanelCase}
 use Rattle.run_parts.specs.Faults.{fault_status}
-use Rattle.run_parts.specs.Parts.{IsOfLast, IsOfRecords}
+use Rattle.run_parts.specs.Parts.{IsOfLast, IsOfRecords, IsOfRules, RefusesRules}
 use Rattle.run_parts.specs.Readings.{AnswersDue, HoldsRules}
 use Rattle.run_parts.specs.Run.{AreCallsTo}
 use Rattle.run_parts.specs.declared.fault.Fault.{Fault}
@@ -21,7 +21,14 @@ use Rattle.panel_command.proofs.DueLaws.{panel_not_due, refused_answers}
 
 -- ---- kinds
 
--- what the records are refused for, and the file of the last period, the three files are
+-- what the rules are refused for, the records, and the file of the last period, the three files are
+pub of-rules : (name : List ℕ) (f : Fault) → IsOfRules name f → IsOfPanelInput f
+of-rules name (fault.Rules line k) kind = tt
+of-rules name (fault.Read n) kind = tt
+of-rules name (fault.TooLong n) kind = tt
+of-rules name fault.OutOfMemory kind = tt
+of-rules name f kind = absurd kind
+
 pub of-records : (name : List ℕ) (f : Fault) → IsOfRecords name f → IsOfPanelInput f
 of-records name (fault.Records what) kind = tt
 of-records name (fault.Read n) kind = tt
@@ -68,6 +75,14 @@ panel-calls asked rest calls f kind h = absurd kind
 -- ---- causes, and what is due
 
 module _ (asked : PanelAsked) (files : Option Files) where
+  -- the rules are refused for what their reading says
+  pub rules-refuse : (f : Fault) → IsOfRules asked.rules f → RefusesRules asked.rules files f → RefusesPanel asked files f
+  rules-refuse (fault.Rules line k) kind why = why
+  rules-refuse (fault.Read name) kind why = inl kind
+  rules-refuse (fault.TooLong name) kind why = (inl kind, why)
+  rules-refuse fault.OutOfMemory kind why = tt
+  rules-refuse f kind why = absurd kind
+
   module _ (survey : SurveyParts) (set : ℕ) (hr : HoldsRules files asked.rules survey) (are : AreLastFields survey.fields set) where
     -- the records are refused for what their reading says, where the rules were read
     pub own-refuse : (f : Fault) → IsOfRecords asked.records f

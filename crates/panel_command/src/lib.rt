@@ -4,6 +4,7 @@
 
 mod keyed_rows;
 mod panel_input;
+mod panel_rows;
 mod panel_run;
 
 pub use panel_run::run_panel;

@@ -5,33 +5,27 @@ ghost use Rattle.std.specs.Prelude.{◌≡◌, ◌<◌, ◌∷◌, [], ℕ, List
 ghost use Rattle.edit_desk.specs.Desk.{PutsOnRecord, fetched};
 ghost use Rattle.edit_model.specs.Surveys.{IsWellFormed};
 ghost use Rattle.record_text.specs.Sheets.{IsSheet};
-ghost use Rattle.panel_files.specs.LastFields.{AreLastFields, last_fields, own_fields};
+ghost use Rattle.panel_files.specs.LastFields.{last_fields, own_fields};
 ghost use Rattle.run_parts.specs.Parts.{AreCallsOf, done_end, faults_after};
 ghost use Rattle.run_parts.specs.Readings.{AnswersDue};
 ghost use Rattle.panel_command.specs.PanelInput.{HoldsPanel, IsOfPanelInput, IsPanelDue, RefusesPanel};
 
-use crate::keyed_rows::{fetch_last_rows, fetch_own_rows};
+use crate::panel_rows::{PanelRows, fetch_rows};
 use command_words::PanelWords;
 use edit_desk::Desk;
 use edit_model::{FieldSet, Survey};
-use foundation::OutOfMemory;
-use panel_files::{last_set, last_survey, own_survey};
+use panel_files::last_set;
 use panel_release::Panel;
-use record_text::Sheet;
 use run_parts::{Refusal, fetch_survey};
 use std::alloc::Global;
 use std::marker::Model;
 
 /// What is read of the three files: the survey, the set of its last fields, and the rows of both files.
-/// `own_key` and `last_key` are the columns of the key in these, from 0.
 #[derive(Drop)]
 pub(crate) struct PanelInput {
-    pub(crate) survey: Survey,
-    pub(crate) set: FieldSet,
-    pub(crate) own: Sheet,
-    pub(crate) last: Sheet,
-    pub(crate) own_key: u32,
-    pub(crate) last_key: u32,
+    survey: Survey,
+    set: FieldSet,
+    rows: PanelRows,
 }
 
 impl Model for PanelInput {
@@ -39,11 +33,7 @@ impl Model for PanelInput {
 
     ghost Value = { PanelCase };
 
-    ghost view = { λ p. record {
-      survey = p.survey;
-      set = p.set;
-      files = record { own = p.own; last = p.last; own_key = p.own_key; last_key = p.last_key };
-    } };
+    ghost view = { λ p. record { survey = p.survey; set = p.set; files = p.rows } };
 }
 
 impl PanelInput {
@@ -54,10 +44,10 @@ impl PanelInput {
         Panel {
             survey: &self.survey,
             set: self.set,
-            own: &self.own,
-            last: &self.last,
-            own_key: self.own_key,
-            last_key: self.last_key,
+            own: &self.rows.own,
+            last: &self.rows.last,
+            own_key: self.rows.own_key,
+            last_key: self.rows.last_key,
         }
     }
 }
@@ -86,33 +76,6 @@ pub(crate) fn fetch_panel<'a, D: Desk>(
 {
     let survey = fetch_survey(alloc, asked.rules, desk)?;
     let set = last_set(&survey);
-    let Ok((of_own, of_last)) = part_surveys(alloc, &survey, set) else {
-        return Err(Refusal::out_of_memory());
-    };
-    let (own, own_key) = fetch_own_rows(alloc, asked.records, asked.key, &of_own, desk)?;
-    let (last, last_key) = fetch_last_rows(alloc, asked.last, asked.key, &of_last, desk)?;
-    Ok(PanelInput {
-        survey,
-        set,
-        own,
-        last,
-        own_key,
-        last_key,
-    })
-}
-
-// The surveys by which the two files are read: that of the records, and that of the last period. The latter
-// has the fields of `set`, which are the last fields, and the former all others.
-fn part_surveys(
-    alloc: Global,
-    survey: &Survey,
-    set: FieldSet,
-) -> Result<(Survey, Survey), OutOfMemory>
-    requires set { AreLastFields survey.now.fields set }
-    ensures own { IfOk result (λ both. both.0.fields ≡ own_fields survey.now.fields set) }
-    ensures last { IfOk result (λ both. both.1.fields ≡ last_fields survey.now.fields set) }
-{
-    let own = own_survey(alloc, survey, set)?;
-    let last = last_survey(alloc, survey, set)?;
-    Ok((own, last))
+    let rows = fetch_rows(alloc, asked, &survey, set, desk)?;
+    Ok(PanelInput { survey, set, rows })
 }

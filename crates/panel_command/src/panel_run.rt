@@ -3,20 +3,25 @@
 //! did all (`linked`), and with which fault it ended elsewhere (`stopped`). They also say that it did all
 //! where nothing stood in the way (`complete`). What is wrong with a file is told exactly where it is so
 //! (`due`).
-ghost use Rattle.std.specs.Prelude.{◌≡◌, ◌≢◌, if◌then◌else◌, IfErr, IfSome};
-ghost use Rattle.edit_desk.specs.Desk.{PutsOnRecord, Told};
-ghost use Rattle.panel_command.specs.PanelInput.{IsPanelDue, RefusesPanel};
-ghost use Rattle.panel_command.specs.PanelRun.{IsPanelComplete, IsPanelRun, IsPanelStopped, made_of, panel_calls, panel_command};
+ghost use Rattle.std.specs.Prelude.{◌≡◌, ◌≢◌, ◌<◌, ◌∷◌, [], if◌then◌else◌, ℕ, List, IfErr, IfOk, IfSome, length};
+ghost use Rattle.edit_desk.specs.Desk.{PutsOnRecord, Told, fetched};
+ghost use Rattle.record_text.specs.Sheets.{IsSheet};
+ghost use Rattle.panel_files.specs.LastFields.{AreLastFields, last_fields, own_fields};
+ghost use Rattle.panel_release.specs.PanelReleases.{IsPanelRelease};
+ghost use Rattle.panel_command.specs.PanelInput.{IsOfPanelInput, IsPanelDue, RefusesPanel};
+ghost use Rattle.panel_command.specs.PanelRun.{IsPanelComplete, IsPanelMade, IsPanelRun, IsPanelStopped, made_of, panel_calls, panel_command};
 ghost use Rattle.run_parts.specs.CommandParts.{CommandEnds, end_of};
-ghost use Rattle.run_parts.specs.Commands.{HasReleased};
+ghost use Rattle.run_parts.specs.Commands.{AreWritten, HasReleased};
 ghost use Rattle.run_parts.specs.Faults.{IsOfPanel, IsOfStores};
-ghost use Rattle.run_parts.specs.Parts.{AreCallsOf, StoresOf, faults_after, store_calls};
+ghost use Rattle.run_parts.specs.Parts.{AreCallsOf, StoresOf, done_end, faults_after, store_calls};
 ghost use Rattle.run_parts.specs.Readings.{AnswersDue};
 ghost use Rattle.run_parts.specs.Run.{ran};
+ghost use Rattle.run_parts.specs.declared.fault.Fault.TheVariants as faults;
 
-use crate::panel_input::fetch_panel;
+use crate::panel_input::{PanelInput, fetch_panel};
 use command_words::PanelWords;
 use edit_desk::{Desk, Printer};
+use foundation::OutOfMemory;
 use panel_release::{PanelRelease, release_panel};
 use run_parts::{Refusal, Status, refuse, store_file, tell};
 use std::alloc::Global;
@@ -71,16 +76,55 @@ fn correct<'a, D: Desk>(
     ensures asked { PutsOnRecord (D.calls desk.old) (D.calls desk.new) (AreCallsOf (panel_calls asked.now) result) }
     ensures faults { D.faults desk.new ≡ faults_after result (D.faults desk.old) }
 {
-    let input = fetch_panel(alloc, asked, desk)?;
-    let Ok(release) = release_panel(alloc, &input.panel(), asked.budget) else {
-        return Err(Refusal::out_of_memory());
-    };
+    let release = make_release(alloc, asked, desk)?;
     store_release(alloc, asked, &release, desk)?;
     Ok(release)
 }
 
+// Fetches and reads the three files, and corrects the records. The clauses say that what is answered is to be
+// made of the files (`made`), which refusals may come (`kind`), what each says of the files (`cause`), and when
+// one has to come (`due`).
+fn make_release<'a, D: Desk>(
+    alloc: Global,
+    asked: &PanelWords<'a>,
+    desk: &mut D,
+) -> Result<PanelRelease, Refusal<'a>>
+    ensures made { IfOk result (λ release. IfSome (D.files desk.old) (λ files. IsPanelMade asked.now files (made_of asked.now release))) }
+    ensures kind { IfErr result IsOfPanelInput }
+    ensures cause { IfErr result (λ fault. RefusesPanel asked.now (D.files desk.old) fault) }
+    ensures due { IfSome (D.files desk.old) (λ files. AnswersDue (IsPanelDue asked.now files) (done_end result)) }
+    ensures asked { PutsOnRecord (D.calls desk.old) (D.calls desk.new)
+        (AreCallsOf (fetched asked.now.rules ∷ fetched asked.now.records ∷ fetched asked.now.last ∷ []) result) }
+    ensures faults { D.faults desk.new ≡ faults_after result (D.faults desk.old) }
+    ensures unchanged { D.files desk.new ≡ D.files desk.old }
+{
+    let input = fetch_panel(alloc, asked, desk)?;
+    correct_records(alloc, &input, asked.budget)
+}
+
+// Corrects the records of what was read, within this budget for each. The only fault is want of memory.
+fn correct_records<'a>(
+    alloc: Global,
+    input: &PanelInput,
+    budget: u64,
+) -> Result<PanelRelease, Refusal<'a>>
+    requires set { AreLastFields input.now.survey.fields input.now.set }
+    requires own { (bytes : List ℕ) × IsSheet (own_fields input.now.survey.fields input.now.set) bytes input.now.files.own }
+    requires last { (bytes : List ℕ) × IsSheet (last_fields input.now.survey.fields input.now.set) bytes input.now.files.last }
+    requires own_key { input.now.files.own_key < length input.now.files.own.header }
+    requires last_key { input.now.files.last_key < length input.now.files.last.header }
+    ensures released { IfOk result (IsPanelRelease input.now budget) }
+    ensures memory { IfErr result (λ fault. fault ≡ faults.OutOfMemory) }
+{
+    match release_panel(alloc, &input.panel(), budget) {
+        Ok(release) => Ok(release),
+        Err(OutOfMemory) => Err(Refusal::out_of_memory()),
+    }
+}
+
 // Stores the proof, the reasons, and then the released file; the first that fails ends the call, and is the
-// refusal. The released file comes last, so that where it is stored, its proof and its reasons are, too.
+// refusal. The released file comes last, so that where it is stored, its proof and its reasons are, too. Where
+// all are stored, each stands under its name (`written`).
 fn store_release<'a, D: Desk>(
     alloc: Global,
     asked: &PanelWords<'a>,
@@ -89,6 +133,7 @@ fn store_release<'a, D: Desk>(
 ) -> Result<(), Refusal<'a>>
     ensures kind { IfErr result IsOfStores }
     ensures files { Told (D.files desk.old) (D.files desk.new) (StoresOf (made_of asked.now release.now).files result) }
+    ensures written { IfOk result (λ done. Told (D.files desk.old) (D.files desk.new) (AreWritten (made_of asked.now release.now).files)) }
     ensures asked { PutsOnRecord (D.calls desk.old) (D.calls desk.new)
         (AreCallsOf (store_calls (made_of asked.now release.now).files) result) }
     ensures faults { D.faults desk.new ≡ faults_after result (D.faults desk.old) }

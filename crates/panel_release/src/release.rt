@@ -1,8 +1,8 @@
 //! What is made of the records of a panel. Each is joined with its row of the last period and corrected,
 //! and what becomes of it is told. In contracts, `IsPanelRelease` says that each record has an answer, and
-//! that the files and the summary tell just these. `IsRead` says that both files were read with their key, and
-//! `IsEnd` that values which a record was given are those of its path.
-ghost use Rattle.std.specs.Prelude.{◌≡◌, ◌<◌, ℕ, List, IfOk, length, map};
+//! that the files and the summary tell just these. `TellsNone` and `TellsTo` say so before the first record and
+//! behind the first ones. `IsRead` says that both files were read with their key, and `IsEnd` that values which a record was given are those of its path.
+ghost use Rattle.std.specs.Prelude.{◌≡◌, ◌<◌, ℕ, List, IfOk, OnOk, length, map};
 ghost use Rattle.edit_model.specs.Rows.{IsRow};
 ghost use Rattle.edit_normal.specs.RuleLines.{normal_lines_of};
 ghost use Rattle.record_text.specs.Sheets.{IsSheet};
@@ -11,6 +11,7 @@ ghost use Rattle.edit_report.specs.Layouts.{IsLayout};
 ghost use Rattle.panel_files.specs.LastFields.{AreLastFields, last_fields, own_fields};
 ghost use Rattle.panel_release.specs.PanelReleases.{IsAnswerAmong, IsPanelRelease, columns_in, end_of};
 ghost use Rattle.panel_release.specs.inner.Panels.{IsRead, TellsRows, both_at};
+ghost use Rattle.panel_release.specs.inner.Tellings.{TellsNone, TellsTo};
 
 use crate::panel::Panel;
 use crate::told::{AnsweredRecord, Told};
@@ -53,11 +54,28 @@ pub fn release_panel(alloc: Global, panel: &Panel, budget: u64) -> Result<PanelR
     ensures released { IfOk result (IsPanelRelease panel.now budget) }
 {
     let lines = normal_lines(alloc, panel.survey)?;
+    let mut told = Told::start(alloc, panel.own, lines.len(), budget)?;
+    tell_rows(alloc, panel, &lines, budget, &mut told)?;
+    told.end(alloc)
+}
+
+// Tells what becomes of each record of the panel, in order. `lines` are those of all rules.
+fn tell_rows(
+    alloc: Global,
+    panel: &Panel,
+    lines: &[RuleLine],
+    budget: u64,
+    told: &mut Told,
+) -> Result<(), OutOfMemory>
+    requires read { IsRead panel.now }
+    requires lines { map (λ l. l.line) lines.now ≡ normal_lines_of panel.now.survey }
+    requires none { TellsNone panel.now.files.own (length lines.now) budget told.old }
+    ensures told { OnOk result (TellsTo panel.now budget (length panel.now.files.own.rows) told.new) }
+{
     let table = KeyTable::of(alloc, panel.last, panel.last_key)?;
     let layout = layout_of(alloc, panel)?;
-    let mut told = Told::start(alloc, panel.own, lines.len(), budget)?;
     for row_no in 0..panel.own.len() {
-        let answer = answer_at(alloc, panel, &table, &lines, row_no, budget)?;
+        let answer = answer_at(alloc, panel, &table, lines, row_no, budget)?;
         let record = AnsweredRecord {
             number: row_no,
             read: panel.own.raw(row_no),
@@ -65,7 +83,7 @@ pub fn release_panel(alloc: Global, panel: &Panel, budget: u64) -> Result<PanelR
         };
         told.tell_record(alloc, panel.survey, &layout, record)?;
     }
-    told.end(alloc)
+    Ok(())
 }
 
 // In which columns the fields stand in the rows of the records. The last fields stand in the other file: they

@@ -7,14 +7,14 @@ ghost use Rattle.std.specs.List.{All};
 ghost use Rattle.record_pieces.specs.Needs.{AnswersNeeds};
 ghost use Rattle.record_pieces.specs.Rests.{ArePiecesIn};
 ghost use Rattle.record_workers.specs.Workers.{AnswersInClasses, IsReady, IsShared, last_class};
-ghost use Rattle.record_workers.specs.inner.Gatherings.{HasRun};
+ghost use Rattle.record_workers.specs.inner.Gatherings.{HasRun, shared_of};
 
 use crate::gate::Gate;
 use crate::history::history_of;
 use crate::parts::{Parts, parts_of};
 use crate::shared::Shared;
 use crate::worker::Worker;
-use class_books::class_laws;
+use class_books::{SharedClasses, class_laws};
 use donor_book::Entry;
 use edit_model::Value;
 use foundation::OutOfMemory;
@@ -23,6 +23,7 @@ use std::alloc::Global;
 use std::sync::Wait;
 use std::thread;
 use std::thread::Threads;
+use ticket_row::Tickets;
 
 /// What workers found and claimed, all together. There is a piece for each record, in row order. The claims
 /// of donors stand class by class, in each in the order in which they were answered. `rest` is that of the
@@ -55,27 +56,51 @@ pub fn run_all<R: Threads + Wait + Sync, F: Fn(u32, &Value, &Value) -> u64 + Sen
     ensures classes { IfOk result (λ gathered. AnswersInClasses shared.books.terms.limit (last_class shared)
         (length workers.items ≡ 1) gathered.pieces.items gathered.history.items) }
 {
-    let ran = run_each(rt, alloc, &shared, workers, gate)?;
+    let ran = run_each(rt, alloc, &shared, workers, gate);
     let Shared {
         rest,
         tickets,
         books,
     } = shared;
-    let Parts {
-        seats,
-        passes,
-        mut pieces,
-    } = parts_of(alloc, ran)?;
-    tickets.close(seats);
-    let histories = books.close(passes);
-    class_laws();
-    pieces.sort_unstable_by_key(|piece| piece.row_no);
-    let history = history_of(alloc, &pieces, &histories, rest.decks.last())?;
+    let (pieces, history) = found_by(alloc, &rest, tickets, books, ran)?;
     Ok(Gathered {
         pieces,
         history,
         rest,
     })
+}
+
+// The pieces that workers found, in row order, and what they claimed. `ran` has the workers when they have
+// run, so that the tickets and the books can be closed, or says that memory was refused to one of them.
+fn found_by<F: Fn(u32, &Value, &Value) -> u64>(
+    alloc: Global,
+    rest: &Rest<F>,
+    tickets: Tickets,
+    books: SharedClasses,
+    ran: Result<Vec<Worker>, OutOfMemory>,
+) -> Result<(Vec<Piece>, Vec<Entry>), OutOfMemory>
+    requires shared { IsShared F.Fn (shared_of rest.now tickets books) }
+    requires ran { IfOk ran (λ workers. All (HasRun (shared_of rest.now tickets books)) workers.items) }
+    requires seats { IfOk ran (λ workers. length workers.items ≡ tickets.seats) }
+    requires passes { books.terms.passes ≡ tickets.seats }
+    requires some { 0 < tickets.seats }
+    ensures pieces { IfOk result (λ found. ArePiecesIn rest.now found.0.items) }
+    ensures history { IfOk result (λ found. AnswersNeeds books.terms.limit found.0.items found.1.items) }
+    ensures classes { IfOk result (λ found. AnswersInClasses books.terms.limit (length rest.now.decks.of_class.items)
+        (tickets.seats ≡ 1) found.0.items found.1.items) }
+{
+    let workers = ran?;
+    let Parts {
+        seats,
+        passes,
+        mut pieces,
+    } = parts_of(alloc, workers)?;
+    tickets.close(seats);
+    let histories = books.close(passes);
+    class_laws();
+    pieces.sort_unstable_by_key(|piece| piece.row_no);
+    let history = history_of(alloc, &pieces, &histories, rest.decks.last())?;
+    Ok((pieces, history))
 }
 
 // Lets all workers run, and gives them back in their order when each has ended. Where memory was refused to

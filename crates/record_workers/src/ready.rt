@@ -1,13 +1,13 @@
 //! Workers that have done nothing yet, and what they share. In contracts, `IsRest` says that the parts of
 //! `rest` fit one another. `IsShared` says that each record has a ticket and each class a book, and `IsReady`
 //! that a worker has a seat and a pass there.
-ghost use Rattle.std.specs.Prelude.{◌≡◌, ◌≤◌, IfOk, length};
+ghost use Rattle.std.specs.Prelude.{◌≡◌, ◌+◌, ◌<◌, ◌≤◌, ◌^◌, IfOk, length};
 ghost use Rattle.std.specs.List.{All};
 ghost use Rattle.ticket_row.specs.Tickets.{IsFresh, Row};
 ghost use Rattle.class_books.specs.ClassPasses.{ClassesName, IsFreshPass};
-ghost use Rattle.record_pieces.specs.Rests.{IsRest};
+ghost use Rattle.record_pieces.specs.Rests.{IsRest, rows_in};
 ghost use Rattle.record_workers.specs.Workers.{IsReady, IsShared};
-ghost use Rattle.record_workers.specs.inner.Gatherings.{IsReadyAt};
+ghost use Rattle.record_workers.specs.inner.Gatherings.{IsReadyAt, terms_over};
 
 use crate::shared::Shared;
 use crate::worker::Worker;
@@ -38,18 +38,66 @@ pub fn ready_workers<F: Fn(u32, &Value, &Value) -> u64>(
     ensures seats { IfOk result (λ made. made.0.tickets.seats ≡ workers) }
     ensures passes { IfOk result (λ made. made.0.books.terms.passes ≡ workers) }
 {
-    let rows = rest.sheet.len();
-    let (tickets, seats) = Tickets::new(alloc, rows, workers)?;
-    let class_of = rest.decks.classes_read(alloc, &rest.sheet)?;
-    let classes = rest.decks.last() + 1;
-    let (books, passes) = SharedClasses::share(alloc, class_of, classes, limit, workers)?;
-    let ready = workers_at(alloc, &rest.pool, seats, passes, workers)?;
+    let places = places_over(alloc, &rest, limit, workers)?;
     let shared = Shared {
         rest,
+        tickets: places.tickets,
+        books: places.books,
+    };
+    Ok((shared, places.workers))
+}
+
+// The tickets and the books of some workers, and these workers, which have done nothing yet.
+#[derive(Drop)]
+struct Places {
+    tickets: Tickets,
+    books: SharedClasses,
+    workers: Vec<Worker>,
+}
+
+// `count` workers that have done nothing yet, with a ticket for each row of the sheet and a book for each
+// class, in which a donor is given at most `limit` times.
+fn places_over<F: Fn(u32, &Value, &Value) -> u64>(
+    alloc: Global,
+    rest: &Rest<F>,
+    limit: u32,
+    count: u32,
+) -> Result<Places, OutOfMemory>
+    requires rest { IsRest F.Fn rest.now }
+    requires count { (1 ≤ count) × (count ≤ 64) }
+    ensures tickets { IfOk result (λ places. places.tickets.row.count ≡ length (rows_in rest.now)) }
+    ensures seats { IfOk result (λ places. places.tickets.seats ≡ count) }
+    ensures books { IfOk result (λ places. places.books.terms ≡ terms_over rest.now limit count) }
+    ensures as_many { IfOk result (λ places. length places.workers.items ≡ count) }
+    ensures ready { IfOk result (λ places. All (IsReadyAt places.tickets.row places.books) places.workers.items) }
+{
+    let (tickets, seats) = Tickets::new(alloc, rest.sheet.len(), count)?;
+    let (books, passes) = books_over(alloc, rest, limit, count)?;
+    let workers = workers_at(alloc, &rest.pool, seats, passes, count)?;
+    Ok(Places {
         tickets,
         books,
-    };
-    Ok((shared, ready))
+        workers,
+    })
+}
+
+// A book for each class, in which a donor is given at most `limit` times, and `passes` passes over them.
+fn books_over<F: Fn(u32, &Value, &Value) -> u64>(
+    alloc: Global,
+    rest: &Rest<F>,
+    limit: u32,
+    passes: u32,
+) -> Result<(SharedClasses, Vec<ClassPass>), OutOfMemory>
+    requires rest { IsRest F.Fn rest.now }
+    requires rows { length (rows_in rest.now) + 1 < 2 ^ 32 }
+    requires passes { 0 < passes }
+    ensures terms { IfOk result (λ made. made.0.terms ≡ terms_over rest.now limit passes) }
+    ensures passes { IfOk result (λ made. length made.1.items ≡ passes) }
+    ensures fresh { IfOk result (λ made. All (IsFreshPass made.0) made.1.items) }
+{
+    let class_of = rest.decks.classes_read(alloc, &rest.sheet)?;
+    let classes = rest.decks.last() + 1;
+    SharedClasses::share(alloc, class_of, classes, limit, passes)
 }
 
 // `count` workers that have done nothing yet, numbered from 0. Each has one of the seats and one of the

@@ -1,13 +1,16 @@
 -- What some workers have, all together.
-use Rattle.std.specs.Prelude.{◌≡◌, ℕ, ◌==◌, true, if◌then◌else◌, List, [], Option, Some, None, map, slice_get}
+use Rattle.std.specs.Prelude.{◌≡◌, ℕ, ◌+◌, ◌==◌, true, if◌then◌else◌, List, [], Option, Some, None, length, map, slice_get}
 use Rattle.std.specs.List.{flat_map}
 use Rattle.ticket_row.specs.Tickets as tickets
 use Rattle.donor_book.specs.Entries.{entry_of}
 use Rattle.donor_book.specs.declared.claim.Entry.{Entry}
 use Rattle.donor_book.specs.declared.claim.Won.{Won}
-use Rattle.class_books.specs.ClassPasses.{ClassPassState, ClassesName, IsFreshPass}
+use Rattle.class_books.specs.ClassPasses.{ClassPassState, ClassTerms, ClassesName, IsFreshPass}
+use Rattle.record_pieces.specs.Classes.{class_read}
 use Rattle.record_pieces.specs.Needs.{Need, needs_by}
+use Rattle.record_pieces.specs.Rests.{class_field_in, rows_in}
 use Rattle.record_pieces.specs.declared.piece.Piece.{Piece}
+use Rattle.record_pieces.specs.declared.rest.Rest.{Rest}
 use Rattle.record_workers.specs.Workers.{FoundAll, HasWorked}
 use Rattle.record_workers.specs.declared.shared.Shared.{Shared}
 use Rattle.record_workers.specs.declared.worker.Worker.{Worker}
@@ -46,12 +49,26 @@ unanswered_by last piece = if piece.class == last then unanswered_for (needs_by 
 abbrev pub unanswered : ℕ → List Piece → List Entry
 unanswered last pieces = flat_map (unanswered_by last) pieces
 
+-- by what the books are kept: the class of each row as it was read, a book for each class, and as many passes
+abbrev pub terms_over : {F : Type 0} → Rest F → ℕ → ℕ → ClassTerms
+terms_over rest limit passes =
+    record {
+      class_of = map (class_read (length rest.decks.of_class.items) (class_field_in rest)) (rows_in rest);
+      classes = length rest.decks.of_class.items + 1;
+      limit = limit;
+      passes = passes;
+    }
+
 -- a worker at these tickets and at these books that has done nothing yet
 pub record IsReadyAt (row : tickets.Row) (books : ClassesName) (worker : Worker) : Type 0 where
   pub seat : tickets.IsFresh row worker.seat
   pub pass : IsFreshPass books worker.pass
   pub reader : worker.reader ≡ []
   pub pieces : worker.pieces.items ≡ []
+
+-- what workers share, of its parts
+abbrev pub shared_of : {F : Type 0} → Rest F → tickets.Issue → ClassesName → Shared F
+shared_of rest issue books = record { rest = rest; tickets = issue; books = books }
 
 -- a worker has drawn records until none was left
 pub record HasRun {F : Type 0} (shared : Shared F) (worker : Worker) : Type 0 where

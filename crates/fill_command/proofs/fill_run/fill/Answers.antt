@@ -30,26 +30,26 @@ stores_in w = stored w.released.now ∷ []
 
 -- ---- the rules or the records are refused
 
-pub returns-in_err-survey-clause-kind : goal.returns-in_err-survey-clause-kind
-returns-in_err-survey-clause-kind g c =
-    rw (handed c.from_residual.result _ c.from_residual.ensures.1) (of-input c.in_err-survey.field-0.0 c.in_err-survey.ensures.kind)
+pub returns-in_err-input-clause-kind : goal.returns-in_err-input-clause-kind
+returns-in_err-input-clause-kind g c =
+    rw (handed c.from_residual.result _ c.from_residual.ensures.1) (of-input c.in_err-input.field-0.0 c.in_err-input.ensures.kind)
 
-pub returns-in_err-survey-clause-files : goal.returns-in_err-survey-clause-files
-returns-in_err-survey-clause-files g c =
-    let f = c.in_err-survey.field-0.0 in
+pub returns-in_err-input-clause-files : goal.returns-in_err-input-clause-files
+returns-in_err-input-clause-files g c =
+    let f = c.in_err-input.field-0.0 in
     rw (handed c.from_residual.result _ c.from_residual.ensures.1)
     (unstored (fill_command c.args.asked.now) (g.D.Desk.files c.args.desk.now) (g.D.Desk.files c.fetch_input.new.desk) f
-    c.in_err-survey.ensures.kind c.in_err-survey.ensures.unchanged)
+    c.in_err-input.ensures.kind c.in_err-input.ensures.unchanged)
 
-pub returns-in_err-survey-clause-asked : goal.returns-in_err-survey-clause-asked
-returns-in_err-survey-clause-asked g c =
-    let f = c.in_err-survey.field-0.0 in
+pub returns-in_err-input-clause-asked : goal.returns-in_err-input-clause-asked
+returns-in_err-input-clause-asked g c =
+    let f = c.in_err-input.field-0.0 in
     let w = c.asked.inside in
     let before = g.D.Desk.calls c.args.desk.now in
     rw (handed c.from_residual.result _ c.from_residual.ensures.1)
     (subst (λ (a : FillAsked). PutsOnRecord before (g.D.Desk.calls c.fetch_input.new.desk) (AreCallsTo (fill_calls a) f)) c.asked.view_is
     (less-calls before _ (AreCallsTo (fill_calls (asked_in w)) f)
-    (λ calls h. input-calls w.rules.now w.records.now (stores_in w) calls f c.in_err-survey.ensures.kind h) c.in_err-survey.ensures.asked))
+    (λ calls h. input-calls w.rules.now w.records.now (stores_in w) calls f c.in_err-input.ensures.kind h) c.in_err-input.ensures.asked))
 
 -- ---- memory is refused as the records are filled
 
@@ -59,14 +59,14 @@ returns-in_default-clause-due g c =
     let before = g.D.Desk.files c.args.desk.now in
     rw c.out_of_memory.ensures
     (subst (λ (a : FillAsked). IfSome before (λ o. AnswersDue (IsFillDue a o) (fault_status fault.OutOfMemory))) c.asked.view_is
-    (told-read-due w.rules.now w.records.now before c.in_ok-survey.survey c.in_ok-survey.sheet c.in_ok-survey.ensures.rules
-    c.in_ok-survey.ensures.records (fault_status fault.OutOfMemory)))
+    (told-read-due w.rules.now w.records.now before c.in_ok-input.input.0 c.in_ok-input.input.1 c.in_ok-input.ensures.rules
+    c.in_ok-input.ensures.records (fault_status fault.OutOfMemory)))
 
 pub returns-in_default-clause-files : goal.returns-in_default-clause-files
 returns-in_default-clause-files g c =
     rw c.out_of_memory.ensures
     (unstored (fill_command c.args.asked.now) (g.D.Desk.files c.args.desk.now) (g.D.Desk.files c.fetch_input.new.desk) fault.OutOfMemory
-    tt c.in_ok-survey.ensures.unchanged)
+    tt c.in_ok-input.ensures.unchanged)
 
 pub returns-in_default-clause-asked : goal.returns-in_default-clause-asked
 returns-in_default-clause-asked g c =
@@ -75,7 +75,7 @@ returns-in_default-clause-asked g c =
     rw c.out_of_memory.ensures
     (subst (λ (a : FillAsked). PutsOnRecord before (g.D.Desk.calls c.fetch_input.new.desk) (AreCallsTo (fill_calls a) fault.OutOfMemory))
     c.asked.view_is
-    (less-calls before _ (AreCallsTo (fill_calls (asked_in w)) fault.OutOfMemory) (λ x e. (2, e)) c.in_ok-survey.ensures.asked))
+    (less-calls before _ (AreCallsTo (fill_calls (asked_in w)) fault.OutOfMemory) (λ x e. (2, e)) c.in_ok-input.ensures.asked))
 
 -- ---- the store ends in a fault
 
@@ -95,8 +95,8 @@ returns-in_err-store_file-clause-due g c =
     let before = g.D.Desk.files c.args.desk.now in
     rw (handed c.from_residual-in_err-store_file.result _ c.from_residual-in_err-store_file.ensures.1)
     (subst (λ (a : FillAsked). IfSome before (λ o. AnswersDue (IsFillDue a o) (fault_status f))) c.asked.view_is
-    (told-read-due w.rules.now w.records.now before c.in_ok-survey.survey c.in_ok-survey.sheet c.in_ok-survey.ensures.rules
-    c.in_ok-survey.ensures.records (fault_status f)))
+    (told-read-due w.rules.now w.records.now before c.in_ok-input.input.0 c.in_ok-input.input.1 c.in_ok-input.ensures.rules
+    c.in_ok-input.ensures.records (fault_status f)))
 
 pub returns-in_err-store_file-clause-files : goal.returns-in_err-store_file-clause-files
 returns-in_err-store_file-clause-files g c =
@@ -105,12 +105,12 @@ returns-in_err-store_file-clause-files g c =
     let before = g.D.Desk.files c.args.desk.now in
     let after = g.D.Desk.files c.store_file.new.desk in
     let made = made_of asked c.in-Ok.file in
-    let is = filling asked before c.in_ok-survey.survey c.in_ok-survey.sheet c.in-Ok.file c.in_ok-survey.ensures.rules
-    c.in_ok-survey.ensures.well_formed c.in_ok-survey.ensures.records c.in-Ok.ensures.filled in
+    let is = filling asked before c.in_ok-input.input.0 c.in_ok-input.input.1 c.in-Ok.file c.in_ok-input.ensures.rules
+    c.in_ok-input.ensures.well_formed c.in_ok-input.ensures.records c.in-Ok.ensures.filled in
     rw (handed c.from_residual-in_err-store_file.result _ c.from_residual-in_err-store_file.ensures.1)
     (subst (λ (a : FillAsked). Told before after (Leaves (fill_command a) f)) c.asked.view_is
     (stores-stopped (fill_command asked) before after made is f c.in_err-store_file.ensures.kind
-    (rw (c.deref.ensures.value, c.in_ok-survey.ensures.unchanged) at c.in_err-store_file.ensures.files)))
+    (rw (c.deref.ensures.value, c.in_ok-input.ensures.unchanged) at c.in_err-store_file.ensures.files)))
 
 pub returns-in_err-store_file-clause-asked : goal.returns-in_err-store_file-clause-asked
 returns-in_err-store_file-clause-asked g c =
@@ -119,7 +119,7 @@ returns-in_err-store_file-clause-asked g c =
     let before = g.D.Desk.calls c.args.desk.now in
     rw (handed c.from_residual-in_err-store_file.result _ c.from_residual-in_err-store_file.ensures.1)
     (subst (λ (a : FillAsked). PutsOnRecord before (g.D.Desk.calls c.store_file.new.desk) (AreCallsTo (fill_calls a) f)) c.asked.view_is
-    (behind-calls before _ _ (reads_in w) (stores_in w) [] f (of-stores f c.in_err-store_file.ensures.kind) c.in_ok-survey.ensures.asked
+    (behind-calls before _ _ (reads_in w) (stores_in w) [] f (of-stores f c.in_err-store_file.ensures.kind) c.in_ok-input.ensures.asked
     c.in_err-store_file.ensures.asked))
 
 -- ---- all was done
@@ -129,8 +129,8 @@ returns-clause-due g c =
     let w = c.asked.inside in
     let before = g.D.Desk.files c.args.desk.now in
     subst (λ (a : FillAsked). IfSome before (λ o. AnswersDue (IsFillDue a o) (made_of a c.in-Ok.file).status)) c.asked.view_is
-    (told-read-due w.rules.now w.records.now before c.in_ok-survey.survey c.in_ok-survey.sheet c.in_ok-survey.ensures.rules
-    c.in_ok-survey.ensures.records (made_of (asked_in w) c.in-Ok.file).status)
+    (told-read-due w.rules.now w.records.now before c.in_ok-input.input.0 c.in_ok-input.input.1 c.in_ok-input.ensures.rules
+    c.in_ok-input.ensures.records (made_of (asked_in w) c.in-Ok.file).status)
 
 pub returns-clause-files : goal.returns-clause-files
 returns-clause-files g c =
@@ -138,15 +138,15 @@ returns-clause-files g c =
     let before = g.D.Desk.files c.args.desk.now in
     let after = g.D.Desk.files c.store_file.new.desk in
     let file = c.in-Ok.file in
-    let is = filling asked before c.in_ok-survey.survey c.in_ok-survey.sheet file c.in_ok-survey.ensures.rules
-    c.in_ok-survey.ensures.well_formed c.in_ok-survey.ensures.records c.in-Ok.ensures.filled in
+    let is = filling asked before c.in_ok-input.input.0 c.in_ok-input.input.1 file c.in_ok-input.ensures.rules
+    c.in_ok-input.ensures.well_formed c.in_ok-input.ensures.records c.in-Ok.ensures.filled in
     subst (λ (a : FillAsked). Told before after (CommandEnds (fill_command a) (made_of a) (Ok file))) c.asked.view_is
     (stores-done (fill_command asked) before after (made_of asked file) is (tt, tt)
-    (rw (c.deref.ensures.value, c.in_ok-survey.ensures.unchanged) at c.in_ok-store_file.ensures.files))
+    (rw (c.deref.ensures.value, c.in_ok-input.ensures.unchanged) at c.in_ok-store_file.ensures.files))
 
 pub returns-clause-asked : goal.returns-clause-asked
 returns-clause-asked g c =
     let w = c.asked.inside in
     let before = g.D.Desk.calls c.args.desk.now in
     subst (λ (a : FillAsked). PutsOnRecord before (g.D.Desk.calls c.store_file.new.desk) (λ calls. calls ≡ fill_calls a)) c.asked.view_is
-    (all-calls before _ _ (reads_in w) (stores_in w) c.in_ok-survey.ensures.asked c.in_ok-store_file.ensures.asked)
+    (all-calls before _ _ (reads_in w) (stores_in w) c.in_ok-input.ensures.asked c.in_ok-store_file.ensures.asked)

@@ -1,15 +1,18 @@
 use Rattle.std.proofs.Common.{◌∷◌, [], ◌++◌, List, Err, Result, subst}
 use Rattle.edit_desk.specs.Desk.{Asked, PutsOnRecord, stored}
 use Rattle.panel_release.specs.declared.release.PanelRelease.{PanelRelease}
-use Rattle.command_words.specs.Asked.{PanelAsked}
+use Rattle.command_words.specs.Asked.{PanelAsked, panel_files_in}
 use Rattle.command_words.specs.declared.panel_words.PanelWords.TheInside.{Inside}
+use Rattle.command_words.specs.FileNames.{AreApart}
 use Rattle.panel_command.specs.PanelRun.{made_of}
 use Rattle.run_parts.specs.Run.{AreCallsTo}
 use Rattle.run_parts.specs.Parts.{store_calls}
 use Rattle.run_parts.specs.declared.fault.Fault.{Fault}
 use Rattle.run_parts.proofs.CallLaws.{all-calls, behind-calls, calls-between, less-calls, of-stores}
+use Rattle.run_parts.proofs.CommandLaws.{stored-written}
 use Rattle.run_parts.proofs.StoreLaws.{Texts, stores-both, stores-first, stores-then}
-use Rattle.run_parts.proofs.ToldLaws.{handed}
+use Rattle.run_parts.proofs.ToldLaws.{handed, less-told}
+use Rattle.panel_command.proofs.PanelLaws.{own_names}
 use Rattle.panel_command.proofs.panel_run.store_release.Goals as goal
 
 -- the files of a release, each by itself
@@ -106,3 +109,11 @@ returns-clause-files g c =
     (stores-both (proof_of w release) (reasons_of w release) _ _ _
     (rw c.deref.ensures.value at c.in_ok-store_file.ensures.files) (rw c.deref-2.ensures.value at c.in_ok-store_file-2.ensures.files))
     (rw c.deref-3.ensures.value at c.in_ok-store_file-3.ensures.files))
+
+pub returns-clause-written : goal.returns-clause-written
+returns-clause-written g c =
+    let asked = c.args.asked.now in
+    let release = c.args.release.now in
+    let apart = subst (λ (a : PanelAsked). AreApart (panel_files_in a)) c.asked.view_is c.asked.invariant.0 in
+    less-told (g.D.Desk.files c.args.desk.now) _ (λ x y all. stored-written (made_of asked release).files x y (own_names asked release apart) all)
+    (returns-clause-files g c)

@@ -1,37 +1,47 @@
-use Rattle.std.proofs.Common.{◌≡◌, ◌<◌, ◌∙◌, ◌++◌, List, All, length, map, refl, rules, take, true, subst, sym}
+use Rattle.std.proofs.Common.{◌≡◌, ◌<◌, ◌∙◌, ◌++◌, Global, IfOk, List, All, Ok, Result, Vec, length, map, rules, take, true, subst, sym}
 use Rattle.std.specs.List.{Any}
 use Rattle.std.specs.List.Sorted.{IsPermutation}
 use Rattle.std.proofs.lemmas.List.{length-map}
 use Rattle.std.proofs.lemmas.List.Sorted.{IsNonDecreasingBy-from_sort_by_key}
 use Rattle.ticket_row.specs.Tickets.{DrawnBelow, SeatState}
+use Rattle.foundation.specs.declared.memory.OutOfMemory.{OutOfMemory}
 use Rattle.donor_book.specs.Passes.{IsWhole}
 use Rattle.donor_book.specs.declared.claim.Entry.{Entry}
 use Rattle.class_books.specs.ClassPasses.{ClassPassState, EachClass, passes_in}
 use Rattle.class_books.specs.Histories.{AreCollectedInClasses, history_in, joined}
 use Rattle.record_pieces.specs.declared.piece.Piece.{Piece}
-use Rattle.record_workers.specs.inner.Gatherings.{entry_by, unanswered}
+use Rattle.record_workers.specs.declared.worker.Worker.{Worker}
+use Rattle.record_workers.specs.inner.Gatherings.{HasRun, entry_by, shared_of, unanswered}
 use Rattle.record_workers.proofs.AnswerLaws.{classes-answered, needs-answered}
 use Rattle.record_workers.proofs.RunLaws.{passes-shared, pieces-are, seats-shared, some-ended}
-use Rattle.record_workers.proofs.gathered.run_all.Goals as goal
+use Rattle.record_workers.proofs.gathered.found_by.Goals as goal
+
+-- what holds of the workers that come where all have run
+of-workers : {ran : Result (Vec Worker Global) OutOfMemory} {workers : Vec Worker Global} (P : List Worker → Type 0)
+    → ran ≡ Ok workers → IfOk ran (λ ws. P ws.items) → P workers.items
+of-workers P was each = subst (λ r. IfOk r (λ ws. P ws.items)) was each
 
 pub close-requires-clause-row : goal.close-requires-clause-row
 close-requires-clause-row g c =
-    subst (All (λ (s : SeatState). s.row ≡ c.args.shared.tickets.row)) (sym c.in_ok-seats.ensures.seats)
-    (seats-shared c.args.shared c.in_ok-ran.ran.items c.in_ok-ran.ensures.ran)
+    subst (All (λ (s : SeatState). s.row ≡ c.args.tickets.row)) (sym c.in_ok-seats.ensures.seats)
+    (seats-shared (shared_of c.args.rest.now c.args.tickets c.args.books) c.in_ok-workers.workers.items
+    (of-workers (λ ws. All (HasRun (shared_of c.args.rest.now c.args.tickets c.args.books)) ws) c.in_ok-workers.was c.requires.ran))
 
 pub close-histories-requires-clause-classes : goal.close-histories-requires-clause-classes
 close-histories-requires-clause-classes g c =
-    subst (All (λ (p : ClassPassState). p.classes ≡ c.args.shared.books)) (sym c.in_ok-seats.ensures.passes)
-    (passes-shared c.args.shared c.in_ok-ran.ran.items c.in_ok-ran.ensures.ran)
+    subst (All (λ (p : ClassPassState). p.classes ≡ c.args.books)) (sym c.in_ok-seats.ensures.passes)
+    (passes-shared (shared_of c.args.rest.now c.args.tickets c.args.books) c.in_ok-workers.workers.items
+    (of-workers (λ ws. All (HasRun (shared_of c.args.rest.now c.args.tickets c.args.books)) ws) c.in_ok-workers.was c.requires.ran))
 
 pub returns : goal.returns
 returns g c =
-    let shared = c.args.shared in
+    let shared = shared_of c.args.rest.now c.args.tickets c.args.books in
     let is = c.requires.shared in
     let limit = shared.books.terms.limit in
-    let ran = c.in_ok-ran.ran.items in
-    let all = c.in_ok-ran.ensures.ran in
-    let some : 0 < length ran = subst (λ n. 0 < n) (sym c.in_ok-ran.ensures.as_many) c.requires.some in
+    let ran = c.in_ok-workers.workers.items in
+    let all = of-workers (λ ws. All (HasRun shared) ws) c.in_ok-workers.was c.requires.ran in
+    let as_many = of-workers (λ ws. length ws ≡ c.args.tickets.seats) c.in_ok-workers.was c.requires.seats in
+    let some = subst (λ n. 0 < n) (sym as_many) c.requires.some in
     let seats = c.in_ok-seats.ensures.seats in
     let passes = c.in_ok-seats.ensures.passes in
     let pieces = c.sort_unstable_by_key.new.self.items in
@@ -54,9 +64,8 @@ returns g c =
     let history = c.in_ok-history.history.items in
     let joins = c.class_laws.ensures in
     record {
-      rest = refl;
       pieces = pieces-are shared ran all count drawn all_drawn pieces same sorted;
       history = needs-answered _ shared is ran all count drawn all_drawn pieces same sorted wins many whole legal.0 legal.1 joins history made;
       classes = classes-answered _ shared is ran all count drawn all_drawn pieces same sorted wins many whole legal.0 legal.1 joins history made
-          (length c.args.workers.items ≡ 1) (λ one. c.in_ok-ran.ensures.as_many ∙ one);
+          (c.args.tickets.seats ≡ 1) (λ one. as_many ∙ one);
     }

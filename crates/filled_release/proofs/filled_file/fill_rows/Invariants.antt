@@ -1,5 +1,5 @@
 use Rattle.filled_release.specs.inner.FilledRows.{IsFilledTo}
-use Rattle.filled_release.proofs.filled_file.fill_sheet.Given as goal
+use Rattle.filled_release.proofs.filled_file.fill_rows.Given as goal
 
 abbrev pub invariant-loop-row_no : goal.invariant-loop-row_no
 invariant-loop-row_no l = IsFilledTo l.survey l.sheet l.budget l.row_no l.writer l.counts
