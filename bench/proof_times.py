@@ -1,0 +1,81 @@
+#!/usr/bin/env python3
+"""Says what the proof of a crate spends its time on, module by module.
+
+usage: bench/proof_times.py CRATE [N]      (the N slowest modules, or 20)
+
+How to read a line: seconds by the clock, and a module that Rattle made or that stands in proofs/ or specs/. Of a function, `Lts` is what is
+made for the borrow checker, `Proof` its goals with the search for answers, `Answers` those that are written down, `Tie` how both hang
+together. A module counts from when the one before it was written, so what is read meanwhile counts too. The last line has the sum.
+
+The crates below are proved first, in the tree in which ./forxainde proves the program, where they are not proved there. The crate is then
+checked from nothing, with one processor. Nothing of that is kept: what was checked before is not searched again, and would seem cheap.
+"""
+
+import importlib.machinery
+import importlib.util
+import os
+import re
+import subprocess
+import sys
+import tempfile
+import time
+
+TOP = os.path.dirname(os.path.dirname(os.path.realpath(__file__)))
+
+
+def load(name, file):
+    sys.dont_write_bytecode = True
+    loader = importlib.machinery.SourceFileLoader(name, file)
+    made = importlib.util.module_from_spec(importlib.util.spec_from_loader(name, loader))
+    loader.exec_module(made)
+    return made
+
+
+forxainde = load("forxainde", f"{TOP}/forxainde")
+
+
+def checked_modules(rt, crate, kept):
+    """Checks the crate from nothing; returns when it was begun, and when each module was written, in that order."""
+    words = ["check", *crate.words(["--jobs", "1"], keeps=False), "--incremental", kept]
+    begun = time.time()
+    silent = {"stdin": subprocess.DEVNULL, "stdout": subprocess.DEVNULL, "stderr": subprocess.DEVNULL}
+    ran = subprocess.run([*rt.guarded(), rt.RATTLE, *words], cwd=crate.folder, **silent)
+    if ran.returncode:
+        raise forxainde.NotBuilt(f"{crate.name} is not proved: rt check says why")
+    files = [f"{folder}/{name}" for folder, _, names in os.walk(kept) for name in names if name.endswith(".oantt")]
+    return begun, sorted((os.stat(file).st_mtime, file) for file in files)
+
+
+def name_of(file, crate):
+    """A module's name, of the name of its file."""
+    name = re.sub(r"(\.decls)?\.oantt$", "", os.path.basename(file))
+    return name.removeprefix(f"Rattle-{crate.name}-")
+
+
+def main(name, number):
+    with forxainde.lock(), tempfile.TemporaryDirectory(prefix="proof-times-") as kept:
+        forxainde.copy_sources()
+        rt = forxainde.load_rt()
+        crates = forxainde.crates_of_tree(rt)
+        if name not in crates:
+            raise forxainde.NotBuilt(f"there is no crate {name}")
+        below = [it.name for it in crates[name].deps]
+        if below:
+            forxainde.prove_what_is_left(rt, crates, below)
+        begun, written = checked_modules(rt, crates[name], kept)
+    times, before = [], begun
+    for when, file in written:
+        times.append((when - before, name_of(file, crates[name])))
+        before = when
+    for seconds, module in sorted(times, reverse=True)[:number]:
+        print(f"{seconds:7.2f} {module}")
+    print(f"{before - begun:7.2f} in all")
+
+
+if __name__ == "__main__":
+    if len(sys.argv) not in (2, 3):
+        sys.exit(__doc__)
+    try:
+        main(sys.argv[1], int(sys.argv[2]) if len(sys.argv) == 3 else 20)
+    except forxainde.NotBuilt as why:
+        sys.exit(f"proof_times: {why}")
