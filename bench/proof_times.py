@@ -11,8 +11,6 @@ The crates below are proved first, in the tree in which ./forxainde proves the p
 checked from nothing, with one processor. Nothing of that is kept: what was checked before is not searched again, and would seem cheap.
 """
 
-import importlib.machinery
-import importlib.util
 import os
 import re
 import subprocess
@@ -20,18 +18,9 @@ import sys
 import tempfile
 import time
 
-TOP = os.path.dirname(os.path.dirname(os.path.realpath(__file__)))
+sys.dont_write_bytecode = True
 
-
-def load(name, file):
-    sys.dont_write_bytecode = True
-    loader = importlib.machinery.SourceFileLoader(name, file)
-    made = importlib.util.module_from_spec(importlib.util.spec_from_loader(name, loader))
-    loader.exec_module(made)
-    return made
-
-
-forxainde = load("forxainde", f"{TOP}/forxainde")
+from starter import forxainde
 
 
 def checked_modules(rt, crate, kept):

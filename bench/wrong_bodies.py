@@ -15,8 +15,6 @@ A copy of the crate is checked each time, over what the checks before it proved 
 and where it is not proved so, nothing counts as refused.
 """
 
-import importlib.machinery
-import importlib.util
 import os
 import re
 import shutil
@@ -25,19 +23,11 @@ import sys
 import tempfile
 from concurrent.futures import ThreadPoolExecutor
 
-TOP = os.path.dirname(os.path.dirname(os.path.realpath(__file__)))
+sys.dont_write_bytecode = True
+
+from starter import TOP, forxainde, load
+
 FUNCTION = re.compile(r"^( *)(?:pub(?:\([^)]*\))? )?(?:unsafe )?fn (\w+)", re.M)
-
-
-def load(name, file):
-    sys.dont_write_bytecode = True
-    loader = importlib.machinery.SourceFileLoader(name, file)
-    made = importlib.util.module_from_spec(importlib.util.spec_from_loader(name, loader))
-    loader.exec_module(made)
-    return made
-
-
-forxainde = load("forxainde", f"{TOP}/forxainde")
 
 
 class Edit:
