@@ -11,12 +11,18 @@ use Rattle.std.proofs.lemmas.List.Sums.{prefix_len_passes}
 use Rattle.std.proofs.lemmas.Option.{slice_get_cases}
 use Rattle.std.proofs.lemmas.Slice.Eq.{bytes_eq-Decides}
 use Rattle.edit_model.proofs.NameLemmas.{false_from_not}
+use Rattle.edit_model.proofs.TableLemmas.{position_of_name}
 use Rattle.edit_model.specs.inner.Indexes.{names_of}
 use Rattle.edit_model.specs.declared.field.Field.{Field}
 
 -- the name at a place of the list of names is the name of the field there
 name_at : (fields : List Field) (i : ℕ) (d : Field) (e : List ℕ) → i < length fields → get_or (names_of fields) i e ≡ (get_or fields i d).name
 name_at fields i d e below = get_or-map (λ (f : Field). f.name) fields i d e below
+
+-- a name that no name of the fields is, is the name of none of them
+pub new_field : (fields : List Field) (name : List ℕ) → All (λ n. n ≢ name) (names_of fields) → All (λ (f : Field). f.name ≢ name) fields
+new_field fields name new k d below same =
+    new k d.name (subst (λ (n : ℕ). k < n) (sym (length-map fields (λ (f : Field). f.name))) below) (name_at fields k d d.name below ∙ same)
 
 -- the field at a place, among those that come after others
 module _ (fields : List Field) (i : ℕ) (field : Field) (below : i < length fields) (here : field ≡ get_or fields i field) where
@@ -69,28 +75,33 @@ past_all test names missing = elim (cases_lt (position_or_len test names) (lengt
   | inr past ↦ past
 ]
 
+-- a place among the fields is one among their names
+same_place : (fields : List Field) (name : List ℕ) → position (λ (f : Field). bytes_eq name f.name) fields ≡ position (bytes_eq name) (names_of fields)
+same_place fields name = position_of_name (λ (f : Field). f.name) (bytes_eq name) fields
+
 -- the field at the place where a name was found has the name
-pub found_field : (fields : List Field) (names : List (List ℕ)) (name : List ℕ) (i : ℕ) → names ≡ names_of fields → position (bytes_eq name) names ≡ Some i
+pub found_field : (fields : List Field) (name : List ℕ) (i : ℕ) → position (λ (f : Field). bytes_eq name f.name) fields ≡ Some i
     → IsSomeAnd (slice_get fields i) (λ (f : Field). f.name ≡ name)
-found_field fields names name i are found =
-    let place = position-Some (bytes_eq name) names i [] found in
-    let many : length names ≡ length fields = ap (λ (ns : List (List ℕ)). length ns) are ∙ simp (length-map) refl in
+found_field fields name i found =
+    let names = names_of fields in
+    let place = position-Some (bytes_eq name) names i [] (sym (same_place fields name) ∙ found) in
+    let many : length names ≡ length fields = simp (length-map) refl in
     let here : name ≡ get_or names i [] = (bytes_eq-Decides name (get_or names i [])).0 place.1 in
     elim ((slice_get_cases fields i).1) [
       | inl at ↦
-          let named : (at.0).name ≡ name = ap (λ (f : Field). f.name) (sym at.3) ∙ sym (name_at fields i at.0 [] at.1)
-          ∙ ap (λ (ns : List (List ℕ)). get_or ns i []) (sym are) ∙ sym here in
+          let named : (at.0).name ≡ name = ap (λ (f : Field). f.name) (sym at.3) ∙ sym (name_at fields i at.0 [] at.1) ∙ sym here in
           rw at.2 named
       | inr past ↦ absurd (omega (arith, past.0, place.0, many))
     ]
 
 -- where the name was not found, no field has it
-pub no_field : (fields : List Field) (names : List (List ℕ)) (name : List ℕ) → names ≡ names_of fields → position (bytes_eq name) names ≡ None
+pub no_field : (fields : List Field) (name : List ℕ) → position (λ (f : Field). bytes_eq name f.name) fields ≡ None
     → All (λ (f : Field). f.name ≢ name) fields
-no_field fields names name are missing k d below same =
-    let many : length names ≡ length fields = ap (λ (ns : List (List ℕ)). length ns) are ∙ simp (length-map) refl in
-    let all_before : length names ≤ position_or_len (bytes_eq name) names = past_all (bytes_eq name) names missing in
+no_field fields name missing k d below same =
+    let names = names_of fields in
+    let many : length names ≡ length fields = simp (length-map) refl in
+    let all_before : length names ≤ position_or_len (bytes_eq name) names = past_all (bytes_eq name) names (sym (same_place fields name) ∙ missing) in
     let differs : not (bytes_eq name (get_or names k [])) ≡ true = prefix_len_passes (λ n. not (bytes_eq name n)) names k [] (omega arith) in
-    let found : get_or names k [] ≡ name = ap (λ (ns : List (List ℕ)). get_or ns k []) are ∙ name_at fields k d [] below ∙ same in
+    let found : get_or names k [] ≡ name = name_at fields k d [] below ∙ same in
     let equal : bytes_eq name (get_or names k []) ≡ true = (bytes_eq-Decides name (get_or names k [])).1 (sym found) in
     let unequal : bytes_eq name (get_or names k []) ≡ false = false_from_not _ differs in cc

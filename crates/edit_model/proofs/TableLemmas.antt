@@ -56,14 +56,3 @@ module _ {X : Type 0} (items : X → List ℕ) where
             (ap (map items) longer ∙ map-append items keys (key ∷ []) ∙ ap (λ (n : List ℕ). map items keys ++ n ∷ []) named),
             missing_name name (map items keys) missing,
           )
-
-  -- a new name is put last
-  pub new_last : (key : X) (name : List ℕ) (keys more : List X) → items key ≡ name → more ≡ insert_key (λ a b. bytes_eq (items a) (items b)) keys key
-      → All (λ n. n ≢ name) (map items keys) → map items more ≡ map items keys ++ name ∷ []
-  new_last key name keys more named is new = by (not (list_any (λ k. bytes_eq (items key) (items k)) keys)) (inserted key name keys more _ named is refl)
-    where
-      by : (added : Bool) → MatchBool added ((map items more ≡ map items keys ++ name ∷ []) × All (λ n. n ≢ name) (map items keys))
-          (¬ All (λ n. n ≢ name) (map items keys))
-          → map items more ≡ map items keys ++ name ∷ []
-      by true put = put.0
-      by false there = absurd (there new)

@@ -1,6 +1,6 @@
 //! Whether a survey is well formed. Each function here and in `check/` asks one question of a part, such
 //! as a field, a rule or a name. The definitions in their contracts are those of `specs/Surveys.antt`.
-ghost use Rattle.std.specs.Prelude.{◌≢◌, ◌↔◌, All, AllPairs, IsTrue};
+ghost use Rattle.std.specs.Prelude.{◌≢◌, ◌↔◌, All, AllPairs, IfOk, IsTrue};
 ghost use Rattle.edit_model.specs.Parts.{survey_of};
 ghost use Rattle.edit_model.specs.Surveys.{IsField, IsRule, IsWellFormed};
 
@@ -11,11 +11,13 @@ mod name;
 mod rule;
 
 use crate::field::Field;
-use crate::name::Name;
+use crate::name_table::NameTable;
 use crate::rule::Rule;
 use field::is_field;
+use foundation::OutOfMemory;
 pub use name::is_field_name;
 use rule::is_rule;
+use std::alloc::Global;
 
 /// How many fields a survey may have.
 const MOST_FIELDS: usize = 64;
@@ -37,33 +39,31 @@ fn are_rules(fields: &[Field], rules: &[Rule]) -> bool
     rules.iter().all(|rule| is_rule(fields, rule))
 }
 
-// Whether none of the fields has this name.
-fn is_new(fields: &[Field], name: &Name) -> bool
-    ensures { IsTrue result ↔ All (λ f. f.name ≢ name.now) fields.now }
-{
-    fields.iter().all(|f| f.name.as_bytes() != name.as_bytes())
-}
-
 // Whether no two of the fields have the same name.
-fn have_distinct_names(fields: &[Field]) -> bool
-    ensures { IsTrue result ↔ AllPairs (λ f g. f.name ≢ g.name) fields.now }
+fn have_distinct_names(alloc: Global, fields: &[Field]) -> Result<bool, OutOfMemory>
+    ensures { IfOk result (λ distinct. IsTrue distinct ↔ AllPairs (λ f g. f.name ≢ g.name) fields.now) }
 {
-    for (i, field) in fields.iter().enumerate() {
-        if !is_new(&fields[..i], &field.name) {
-            return false;
+    let mut names = NameTable::new(alloc);
+    for field in fields {
+        if !names.insert(alloc, &field.name)? {
+            return Ok(false);
         }
     }
-    true
+    Ok(true)
 }
 
 /// Whether the survey of these fields and rules is well formed: few enough of each, distinct names, and
 /// each field and rule well formed.
-pub(crate) fn is_well_formed(fields: &[Field], rules: &[Rule]) -> bool
-    ensures { IsTrue result ↔ IsWellFormed (survey_of fields.now rules.now) }
+pub(crate) fn is_well_formed(
+    alloc: Global,
+    fields: &[Field],
+    rules: &[Rule],
+) -> Result<bool, OutOfMemory>
+    ensures { IfOk result (λ formed. IsTrue formed ↔ IsWellFormed (survey_of fields.now rules.now)) }
 {
-    fields.len() <= MOST_FIELDS
-        && rules.len() <= MOST_RULES
-        && have_distinct_names(fields)
-        && are_fields(fields)
-        && are_rules(fields, rules)
+    if fields.len() > MOST_FIELDS || rules.len() > MOST_RULES {
+        return Ok(false);
+    }
+    let distinct = have_distinct_names(alloc, fields)?;
+    Ok(distinct && are_fields(fields) && are_rules(fields, rules))
 }

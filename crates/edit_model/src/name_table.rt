@@ -1,6 +1,5 @@
-//! A table of names, in which a survey finds a field by its name in constant time.
-ghost use Rattle.std.specs.Prelude.{◌≡◌, ◌≢◌, ◌∷◌, ◌++◌, [], All, OnOk, position};
-ghost use Rattle.std.specs.Str.{bytes_eq};
+//! A table of names, by which a survey's names are told apart in constant time each.
+ghost use Rattle.std.specs.Prelude.{◌≡◌, ◌≢◌, ◌∷◌, ◌++◌, [], All, IfOk, MatchBool};
 
 use crate::name::Name;
 use foundation::OutOfMemory;
@@ -8,8 +7,8 @@ use indexmap::IndexSet;
 use std::alloc::Global;
 use std::marker::Model;
 
-/// Distinct names, in the order in which they were put in. A name's place is found in constant time.
-#[derive(Debug, Drop)]
+/// Distinct names, in the order in which they were put in.
+#[derive(Drop)]
 pub(crate) struct NameTable {
     names: IndexSet<Vec<u8>>,
 }
@@ -32,20 +31,13 @@ impl NameTable {
         }
     }
 
-    /// Puts a name behind the others. The caller knows that it is not in the table yet.
-    pub(crate) fn push(&mut self, alloc: Global, name: &Name) -> Result<(), OutOfMemory>
-        requires { All (λ n. n ≢ name.now) self.old }
-        ensures { OnOk result (self.new ≡ self.old ++ name.now ∷ []) }
+    /// Puts a name behind the others, if it is new to the table, and tells whether it is.
+    pub(crate) fn insert(&mut self, alloc: Global, name: &Name) -> Result<bool, OutOfMemory>
+        ensures { IfOk result (λ new. MatchBool new
+            ((self.new ≡ self.old ++ name.now ∷ []) × All (λ n. n ≢ name.now) self.old)
+            (¬ All (λ n. n ≢ name.now) self.old)) }
     {
         let key = Vec::from_slice(alloc, name.as_bytes())?;
-        let _ = self.names.insert(key)?; // whether it is new, which it is
-        Ok(())
-    }
-
-    /// The place of the name, from 0, or None where the table lacks it. No memory.
-    pub(crate) fn find(&self, name: &[u8]) -> Option<usize>
-        ensures { result ≡ position (bytes_eq name.now) self.now }
-    {
-        self.names.get_index_of(name)
+        Ok(self.names.insert(key)?)
     }
 }

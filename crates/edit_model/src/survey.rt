@@ -1,6 +1,7 @@
 //! The survey: its fields and rules, which are well formed once it is made, and what is looked up in them
 //! for each record.
-ghost use Rattle.std.specs.Prelude.{◌≡◌, ◌≢◌, ◌<◌, All, IfNone, IfOk, IfSome, IsSomeAnd, length, slice_get, slice_index_or};
+ghost use Rattle.std.specs.Prelude.{◌≡◌, ◌≢◌, ◌<◌, All, IfNone, IfOk, IfSome, IsSomeAnd, length, position, slice_get, slice_index_or};
+ghost use Rattle.std.specs.Str.{bytes_eq};
 ghost use Rattle.edit_model.specs.Corrections.{code_fields, number_fields, path_order};
 ghost use Rattle.edit_model.specs.Parts.{SurveyParts, survey_of};
 ghost use Rattle.edit_model.specs.Surveys.{IsWellFormed};
@@ -8,20 +9,18 @@ ghost use Rattle.edit_model.specs.Surveys.{IsWellFormed};
 use crate::check::is_well_formed;
 use crate::fault::SurveyFault;
 use crate::field::Field;
-use crate::index::{field_numbers, name_table};
-use crate::name_table::NameTable;
+use crate::index::field_numbers;
 use crate::rule::Rule;
 use foundation::OutOfMemory;
 use std::alloc::Global;
 use std::marker::Model;
 
 /// A questionnaire's fields and the edit rules over them, in declared order. It is well formed. Beside
-/// them stand the table of the names, and the numbers of the numerical and of the categorical fields.
+/// them stand the numbers of the numerical and of the categorical fields.
 #[derive(Debug, Drop)]
 pub struct Survey {
     fields: Vec<Field>,
     rules: Vec<Rule>,
-    names: NameTable,
     numbers: Vec<u32>,
     categories: Vec<u32>,
 }
@@ -34,7 +33,7 @@ impl Model for Survey {
 
     ghost view = { λ s. survey_of s.fields.items s.rules.items };
 
-    ghost invariant = { λ s. IsKept (survey_of s.fields.items s.rules.items) s.names s.numbers.items s.categories.items };
+    ghost invariant = { λ s. IsKept (survey_of s.fields.items s.rules.items) s.numbers.items s.categories.items };
 }
 
 impl Survey {
@@ -45,7 +44,7 @@ impl Survey {
         ensures ok { IfOk result (λ survey. (survey ≡ survey_of fields.items rules.items) × IsWellFormed survey) }
         ensures malformed { result ≡ Err SurveyFault.Malformed → ¬ IsWellFormed (survey_of fields.items rules.items) }
     {
-        if !is_well_formed(&fields, &rules) {
+        if !is_well_formed(alloc, &fields, &rules)? {
             return Err(SurveyFault::Malformed);
         }
         Ok(Survey::of(alloc, fields, rules)?)
@@ -58,13 +57,11 @@ impl Survey {
         ensures { IfOk result (λ survey. survey ≡ survey_of fields.items rules.items) }
     {
         let declared = fields.as_slice();
-        let names = name_table(alloc, declared)?;
         let numbers = field_numbers(alloc, declared, true)?;
         let categories = field_numbers(alloc, declared, false)?;
         Ok(Survey {
             fields,
             rules,
-            names,
             numbers,
             categories,
         })
@@ -91,7 +88,7 @@ impl Survey {
         ensures found { IfSome result (λ i. IsSomeAnd (slice_get self.now.fields i) (λ f. f.name ≡ name.now)) }
         ensures none { IfNone result (All (λ f. f.name ≢ name.now) self.now.fields) }
     {
-        match self.names.find(name) {
+        match place_of(&self.fields, name) {
             Some(place) => Some(place as u32),
             None => None,
         }
@@ -126,4 +123,13 @@ impl Survey {
             self.codes()[place - numbers.len()]
         }
     }
+}
+
+// The place, from 0, of the first of these fields that has the name; None where none has it.
+fn place_of(fields: &[Field], name: &[u8]) -> Option<usize>
+    ensures { result ≡ position (λ f. bytes_eq name.now f.name) fields.now }
+{
+    fields
+        .iter()
+        .position(|field| name == field.name.as_bytes())
 }

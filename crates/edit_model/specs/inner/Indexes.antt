@@ -13,9 +13,8 @@ names_of fields = map (λ (f : Field). f.name) fields
 abbrev pub is_of_sort : Bool → Kind → Bool
 is_of_sort numerical k = if numerical then is_numerical k else not (is_numerical k)
 
--- what is kept of every survey: it is well formed, and beside its parts stand its names and its fields of each kind
-pub record IsKept (survey : SurveyParts) (names : List (List ℕ)) (numbers categories : List ℕ) : Type 0 where
+-- what is kept of every survey: it is well formed, and beside its parts stand its fields of each kind
+pub record IsKept (survey : SurveyParts) (numbers categories : List ℕ) : Type 0 where
   pub well_formed : IsWellFormed survey
-  pub names_are : names ≡ names_of survey.fields
   pub numbers_are : numbers ≡ number_fields survey.fields
   pub codes_are : categories ≡ code_fields survey.fields
