@@ -17,7 +17,7 @@ ghost use Rattle.edit_release.specs.Releases.{AllGiven, HasGuarantee, IsReleaseO
 use crate::edited_sheet::EditedSheet;
 use crate::proof::proof_file;
 use crate::release::Release;
-use crate::texts::Texts;
+use crate::texts::ReleaseTexts;
 use donor_measure::Measure;
 use edit_model::{Survey, Value};
 use edit_report::RowEnd;
@@ -91,9 +91,9 @@ fn release_of(
 {
     let _fields = edited.survey.fields(); // read for what it says: the survey is well formed
     let whole = are_given(edited.ends.as_slice());
-    let texts = Texts::of(alloc, &edited)?;
+    let texts = ReleaseTexts::of(alloc, &edited)?;
     let proof = proof_file(alloc, edited, verdicts, terms)?;
-    let Texts {
+    let ReleaseTexts {
         reasons,
         released,
         summary,

@@ -1,5 +1,7 @@
-//! The proof of an edit, made of its verdicts, ends and claims. In contracts, `said` and `said_of` are what
-//! the proof says of a record, and `refutation_by` is what it says of a line of the rules.
+//! The proof of an edit, made of its verdicts, ends and claims. In contracts, `proof_telling` is that proof,
+//! `shared_proof` is it with each line that several trees derive written once, and `proof_text` the bytes of
+//! a proof. `IsSized` says that each of its numbers fits into its field. `said` and `said_of` are what the
+//! proof says of a record, and `refutation_by` is what it says of a line of the rules.
 ghost use Rattle.std.specs.Prelude.{◌≡◌, [], IfOk, None, map};
 ghost use Rattle.bound_cert.specs.declared.outcome.Outcome.TheVariants.{Change};
 ghost use Rattle.proof_grammar.specs.ProofLines.{proof_text};

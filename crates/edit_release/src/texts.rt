@@ -1,4 +1,5 @@
-//! What an edit writes beside its proof.
+//! What an edit writes beside its proof. In contracts, `AreEnds` says that there is an end for each record of the
+//! sheet, and that each is one that its record can have.
 ghost use Rattle.std.specs.Prelude.{◌≡◌, ℕ, List, IfOk, map};
 ghost use Rattle.edit_report.specs.Ends.{AreEnds};
 ghost use Rattle.edit_report.specs.Reasons.{reasons_text_of};
@@ -13,15 +14,15 @@ use std::alloc::Global;
 
 /// The bytes of the reasons file and of the released file, and the two summary lines.
 #[derive(Drop)]
-pub(crate) struct Texts {
+pub(crate) struct ReleaseTexts {
     pub(crate) reasons: Vec<u8>,
     pub(crate) released: Vec<u8>,
     pub(crate) summary: [Vec<u8>; 2],
 }
 
-impl Texts {
+impl ReleaseTexts {
     /// The texts of an edited sheet.
-    pub(crate) fn of(alloc: Global, edited: &EditedSheet) -> Result<Texts, OutOfMemory>
+    pub(crate) fn of(alloc: Global, edited: &EditedSheet) -> Result<ReleaseTexts, OutOfMemory>
         requires read { (bytes : List ℕ) × IsSheet edited.now.survey.fields bytes edited.now.sheet }
         requires ends { AreEnds edited.now.survey edited.now.sheet edited.now.ends.items }
         ensures reasons { IfOk result (λ texts. texts.reasons.items
@@ -41,7 +42,7 @@ impl Texts {
         let reasons = reasons_text(alloc, sheet, survey, ends)?;
         let released = released_text(alloc, sheet, survey, ends)?;
         let summary = summary_text(alloc, survey, ends, history.as_slice())?;
-        Ok(Texts {
+        Ok(ReleaseTexts {
             reasons,
             released,
             summary,

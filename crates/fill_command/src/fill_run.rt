@@ -80,8 +80,8 @@ fn fill<'a, D: Desk>(
     Ok(file)
 }
 
-// What filling makes of the sheet of the survey's records, which both are let go. `budget` is the most work for
-// each record.
+// What filling makes of the sheet of the survey's records. The survey and the sheet are used up. `budget` is
+// the most work for each record.
 fn fill_input(alloc: Global, input: (Survey, Sheet), budget: u64) -> Result<FilledFile, OutOfMemory>
     requires sheet { (bytes : List ℕ) × IsSheet input.0.fields bytes input.1 }
     ensures filled { IfOk result (IsFilledFile input.0 input.1 budget) }

@@ -1,7 +1,7 @@
 //! The file of filled records, and the line that tells of it: each record is filled by itself, by all
 //! rules of the survey. In contracts, `IsFilledFile` says that each record has an answer, and that the file
-//! and the line tell just these. `IsFilledTo` says so of the first records. `SayTheRules` says that the edits hold just where all rules do, and
-//! `CanBeWritten` that a filled record is one of these fields.
+//! and the line tell just these. `IsFilledTo` says so of the first records. `SayTheRules` says that the
+//! edits hold just where all rules do, and `CanBeWritten` that a filled record is one of these fields.
 ghost use Rattle.std.specs.Prelude.{◌≡◌, ◌<◌, [], ℕ, List, IfOk, length};
 ghost use Rattle.std.specs.Arc.{arc_value};
 ghost use Rattle.edit_line.specs.EditSets.{SayTheRules};

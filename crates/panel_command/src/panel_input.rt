@@ -62,8 +62,10 @@ pub(crate) fn fetch_panel<'a, D: Desk>(
 ) -> Result<PanelInput, Refusal<'a>>
     ensures held { IfOk result (HoldsPanel (D.files desk.old) asked.now) }
     ensures well_formed { IfOk result (λ panel. IsWellFormed panel.survey) }
-    ensures own { IfOk result (λ panel. (bytes : List ℕ) × IsSheet (own_fields panel.survey.fields panel.set) bytes panel.files.own) }
-    ensures last { IfOk result (λ panel. (bytes : List ℕ) × IsSheet (last_fields panel.survey.fields panel.set) bytes panel.files.last) }
+    ensures own { IfOk result (λ panel. (bytes : List ℕ)
+        × IsSheet (own_fields panel.survey.fields panel.set) bytes panel.files.own) }
+    ensures last { IfOk result (λ panel. (bytes : List ℕ)
+        × IsSheet (last_fields panel.survey.fields panel.set) bytes panel.files.last) }
     ensures own_key { IfOk result (λ panel. panel.files.own_key < length panel.files.own.header) }
     ensures last_key { IfOk result (λ panel. panel.files.last_key < length panel.files.last.header) }
     ensures kind { IfErr result IsOfPanelInput }

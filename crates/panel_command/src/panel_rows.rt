@@ -70,7 +70,8 @@ pub(crate) fn fetch_rows<'a, D: Desk>(
 ) -> Result<PanelRows, Refusal<'a>>
     requires rules { HoldsRules (D.files desk.old) asked.now.rules survey.now }
     requires set { AreLastFields survey.now.fields set }
-    ensures held { IfOk result (λ rows. HoldsPanel (D.files desk.old) asked.now (record { survey = survey.now; set = set; files = rows })) }
+    ensures held { IfOk result (λ rows. HoldsPanel (D.files desk.old) asked.now
+        (record { survey = survey.now; set = set; files = rows })) }
     ensures own { IfOk result (λ rows. (bytes : List ℕ) × IsSheet (own_fields survey.now.fields set) bytes rows.own) }
     ensures last { IfOk result (λ rows. (bytes : List ℕ) × IsSheet (last_fields survey.now.fields set) bytes rows.last) }
     ensures own_key { IfOk result (λ rows. rows.own_key < length rows.own.header) }
