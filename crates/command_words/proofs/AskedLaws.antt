@@ -1,12 +1,12 @@
 -- Words ask for one command at most.
-use Rattle.std.proofs.Common.{◌≡◌, ◌≢◌, ◌∙◌, ◌≤◌, ℕ, Option, Some, None, List, [], ◌∷◌, ap, ap₂, subst, sym}
-use Rattle.std.specs.Prelude.{IfNone, IfSome}
+use Rattle.std.proofs.Common.{◌≡◌, ◌≢◌, ◌∙◌, ◌≤◌, ℕ, Option, Some, None, Result, Ok, Err, List, [], ◌∷◌, ap, ap₂, refl, subst, sym}
+use Rattle.std.specs.Prelude.{IfNone, IfOk, IfSome}
 use Rattle.clap.specs.Words.{App, Row, fault_of, matches_of}
 use Rattle.clap.specs.declared.parser.matches.ArgMatches.{ArgMatches}
 use Rattle.command_words.specs.Asked.{CheckAsked, ClassedAsked, EditAsked, FillAsked, MakeAsked, PageAsked, PanelAsked, RulesAsked}
 use Rattle.command_words.specs.Asked.{GivesCheck, GivesClassed, GivesEdit, GivesFill, GivesMake, GivesPage, GivesPanel, GivesRules, IsCommand}
 use Rattle.command_words.specs.Options.{GivesNumber}
-use Rattle.command_words.specs.inner.Found.{Takes, rows_in}
+use Rattle.command_words.specs.inner.Found.{Finds, Takes, rows_in}
 
 -- ---- what is found
 
@@ -135,28 +135,43 @@ one_page found a b p q =
 -- ---- a command and what is found for it
 
 module _ (command : App) (words : List (List ℕ)) (Holds : List Row → Type 0) where
-  -- words that do not begin with its name do not ask for it
-  pub not_named : ((others : List (List ℕ)) → words ≢ command.top.name ∷ others) → ¬ IsCommand command words Holds
-  not_named unnamed is = unnamed is.others is.named
+  -- where nothing is found for it, the words don't ask for it
+  pub not_asked : ((rows : List Row) → ¬ Finds command words rows) → ¬ IsCommand command words Holds
+  not_asked none is = none _ (record { others = is.others; named = is.named; taken = is.taken; found = refl })
 
-  module _ (others : List (List ℕ)) (named : words ≡ command.top.name ∷ others) where
-    same_others : (is : IsCommand command words Holds) → is.others ≡ others
-    same_others is = let this = is.named in let that = named in cc
+  module _ (rows : List Row) (finds : Finds command words rows) where
+    -- what holds of what was found holds of what the words say
+    pub asked_by : Holds rows → IsCommand command words Holds
+    asked_by holds = record { others = finds.others; named = finds.named; taken = finds.taken; found = subst Holds (sym finds.found) holds }
 
-    -- nor do words that `clap` refuses
-    pub not_taken : (made : App) → made ≡ command → fault_of made others ≢ [] → ¬ IsCommand command words Holds
-    not_taken made same refused is =
-        let taken = subst (λ (more : List (List ℕ)). fault_of command more ≡ []) (same_others is) is.taken in
-        refused (subst (λ (app : App). fault_of app others ≡ []) (sym same) taken)
+    same_others : (is : IsCommand command words Holds) → is.others ≡ finds.others
+    same_others is = let this = is.named in let that = finds.named in cc
 
-    module _ (found : ArgMatches) (takes : Takes command others found) where
-      -- what holds of what was found holds of what the words say
-      pub asked_by : Holds (rows_in found) → IsCommand command words Holds
-      asked_by holds = record { others = others; named = named; taken = takes.taken; found = subst Holds (sym takes.rows) holds }
+    -- and the other way round
+    pub found_by : IsCommand command words Holds → Holds rows
+    found_by is = subst Holds (ap (matches_of command) (same_others is) ∙ finds.found) is.found
 
-      -- and the other way round
-      pub found_by : IsCommand command words Holds → Holds (rows_in found)
-      found_by is = subst Holds (ap (matches_of command) (same_others is) ∙ takes.rows) is.found
+-- ---- a command and the words behind its name
+
+module _ (command app : App) (same : app ≡ command) (words others : List (List ℕ)) (named : words ≡ command.top.name ∷ others) where
+  -- what is found in the words behind the name is found in the words
+  pub found_for : {E : Type 0} (r : Result (Option ArgMatches) E) → IfOk r (λ found. IfSome found (Takes app others))
+      → IfOk r (λ found. IfSome found (λ one. Finds command words (rows_in one)))
+  found_for (Err e) taken = tt
+  found_for (Ok None) taken = tt
+  found_for (Ok (Some one)) taken =
+      let takes = subst (λ (a : App). Takes a others one) same taken in
+      record { others = others; named = named; taken = takes.taken; found = takes.rows }
+
+  -- and where `clap` refuses those, nothing is
+  pub none_for : {E : Type 0} (r : Result (Option ArgMatches) E) → IfOk r (λ found. IfNone found (fault_of app others ≢ []))
+      → IfOk r (λ found. IfNone found ((rows : List Row) → ¬ Finds command words rows))
+  none_for (Err e) refused = tt
+  none_for (Ok None) refused = λ rows finds.
+      let those : finds.others ≡ others = let this = finds.named in let that = named in cc in
+      let taken = subst (λ (more : List (List ℕ)). fault_of command more ≡ []) those finds.taken in
+      refused (subst (λ (a : App). fault_of a others ≡ []) (sym same) taken)
+  none_for (Ok (Some one)) refused = tt
 
 -- ---- answers
 

@@ -1,4 +1,5 @@
 pub mod AskedLaws
+mod ApartLaws
 mod CommandLaws
 mod FoundLaws
 mod NameParts

@@ -33,16 +33,19 @@ pub record EditAsked : Type 0 where
   pub limit : ℕ
   pub near : ℕ
 
--- the options of an edit: five that name files and have to stand, and four that give numbers
-abbrev pub edit_options : List Rule
-edit_options =
+-- five options name files, and have to stand
+abbrev pub edit_files : List Rule
+edit_files =
     must_stand (codes "rules") ∷ must_stand (codes "records") ∷ must_stand (codes "released") ∷ must_stand (codes "reasons")
-    ∷ must_stand (codes "proof") ∷ may_stand (codes "workers") ∷ may_stand (codes "budget") ∷ may_stand (codes "limit")
-    ∷ may_stand (codes "near") ∷ []
+    ∷ must_stand (codes "proof") ∷ []
+
+-- four options give numbers
+abbrev pub edit_numbers : List Rule
+edit_numbers = may_stand (codes "workers") ∷ may_stand (codes "budget") ∷ may_stand (codes "limit") ∷ may_stand (codes "near") ∷ []
 
 -- the command `edit` has these options
 abbrev pub edit_command : App
-edit_command = command_with (codes "edit") edit_options
+edit_command = command_with (codes "edit") (edit_files ++ edit_numbers)
 
 -- the names of the five files
 abbrev pub names_in : Names → List (List ℕ)
@@ -76,7 +79,7 @@ pub record ClassedAsked : Type 0 where
 
 -- the options of the command: those of an edit, and one that names a field and has to stand
 abbrev pub classed_command : App
-classed_command = command_with (codes "classed") (edit_options ++ must_stand (codes "class") ∷ [])
+classed_command = command_with (codes "classed") (edit_files ++ must_stand (codes "class") ∷ edit_numbers)
 
 -- what is found is what gives an edit; and a field's name, which may be any text
 pub record GivesClassed (found : List Row) (asked : ClassedAsked) : Type 0 where

@@ -3,14 +3,13 @@
 //! In contracts a row is what `clap` found for one option. `GivesCheck` says what the rows ask for, and
 //! `IsCheck` what the words do.
 ghost use Rattle.std.specs.Prelude.{◌≡◌, ◌↔◌, ◌∷◌, [], IfOk, IfSome, IfNone, IsTrue, map, string_bytes};
-ghost use Rattle.clap.specs.Words.{app_of};
-ghost use Rattle.command_words.specs.Asked.{CheckAsked, GivesCheck, IsCheck, check_command};
+ghost use Rattle.command_words.specs.Asked.{CheckAsked, GivesCheck, IsCheck};
 ghost use Rattle.command_words.specs.FileNames.{AreApart};
 ghost use Rattle.command_words.specs.inner.Found.{rows_in};
 
-use crate::file_names::{is_apart_from, lead_to_one};
-use crate::options::{command_named, match_words, text_in, with_required, words_behind};
-use clap::{ArgMatches, Command};
+use crate::file_names::are_apart;
+use crate::options::{found_in, text_in};
+use clap::ArgMatches;
 use foundation::OutOfMemory;
 use std::alloc::Global;
 use std::marker::Model;
@@ -49,24 +48,11 @@ pub fn check_asked<'a>(
         (λ one. (other : CheckAsked) → IsCheck (map string_bytes words.entry.now) other → other ≡ one)) }
     ensures none { IfOk result (λ asked. IfNone asked ((one : CheckAsked) → ¬ IsCheck (map string_bytes words.entry.now) one)) }
 {
-    let Some(others) = words_behind("check", words) else {
-        return Ok(None);
-    };
-    let Some(found) = match_words(command(alloc)?, others)? else {
+    let required = ["rules", "records", "released", "proof"];
+    let Some(found) = found_in(alloc, "check", &required, &[], words)? else {
         return Ok(None);
     };
     Ok(check_of(&found))
-}
-
-// The command `check`, as `clap` is told of it: four options, each of which has to stand.
-fn command<'a>(alloc: Global) -> Result<Command<'a>, OutOfMemory>
-    ensures { IfOk result (λ command. app_of command ≡ check_command) }
-{
-    with_required(
-        alloc,
-        command_named(alloc, "check"),
-        &["rules", "records", "released", "proof"],
-    )
 }
 
 // What a check is asked for, by what was found for its options. None where one of the four was left out,
@@ -79,7 +65,7 @@ fn check_of<'a>(found: &ArgMatches<'a>) -> Option<CheckWords<'a>>
     let records = text_in(found, "records")?;
     let released = text_in(found, "released")?;
     let proof = text_in(found, "proof")?;
-    if !are_apart(rules, records, released, proof) {
+    if !are_apart(&[rules, records, released, proof]) {
         return None;
     }
     Some(CheckWords {
@@ -88,14 +74,4 @@ fn check_of<'a>(found: &ArgMatches<'a>) -> Option<CheckWords<'a>>
         released,
         proof,
     })
-}
-
-// Whether no two of the four names lead to one file, as far as the names show. Each is compared with those
-// behind it.
-fn are_apart(rules: &str, records: &str, released: &str, proof: &str) -> bool
-    ensures { IsTrue result ↔ AreApart (rules.now ∷ records.now ∷ released.now ∷ proof.now ∷ []) }
-{
-    is_apart_from(rules, &[records, released, proof])
-        && is_apart_from(records, &[released, proof])
-        && !lead_to_one(released, proof)
 }

@@ -4,13 +4,12 @@
 //! In contracts a row is what `clap` found for one option. `GivesClassed` says what the rows ask for, and
 //! `IsClassed` what the words do.
 ghost use Rattle.std.specs.Prelude.{◌≡◌, IfOk, IfSome, IfNone, map, string_bytes};
-ghost use Rattle.clap.specs.Words.{app_of};
-ghost use Rattle.command_words.specs.Asked.{ClassedAsked, GivesClassed, IsClassed, classed_command};
+ghost use Rattle.command_words.specs.Asked.{ClassedAsked, GivesClassed, IsClassed};
 ghost use Rattle.command_words.specs.inner.Found.{rows_in};
 
-use crate::edit_words::{EditWords, edit_command_named, edit_of};
-use crate::options::{match_words, text_in, with_required, words_behind};
-use clap::{ArgMatches, Command};
+use crate::edit_words::{EditWords, edit_of};
+use crate::options::{found_in, text_in};
+use clap::ArgMatches;
 use foundation::OutOfMemory;
 use std::alloc::Global;
 use std::marker::Model;
@@ -47,21 +46,12 @@ pub fn classed_asked<'a>(
         (λ one. (other : ClassedAsked) → IsClassed (map string_bytes words.entry.now) other → other ≡ one)) }
     ensures none { IfOk result (λ asked. IfNone asked ((one : ClassedAsked) → ¬ IsClassed (map string_bytes words.entry.now) one)) }
 {
-    let Some(others) = words_behind("classed", words) else {
-        return Ok(None);
-    };
-    let Some(found) = match_words(command(alloc)?, others)? else {
+    let required = ["rules", "records", "released", "reasons", "proof", "class"];
+    let optional = ["workers", "budget", "limit", "near"];
+    let Some(found) = found_in(alloc, "classed", &required, &optional, words)? else {
         return Ok(None);
     };
     Ok(classed_of(&found))
-}
-
-// The command `classed`, as `clap` is told of it: the options of an edit, and `--class`, which has to stand.
-fn command<'a>(alloc: Global) -> Result<Command<'a>, OutOfMemory>
-    ensures { IfOk result (λ command. app_of command ≡ classed_command) }
-{
-    let command = edit_command_named(alloc, "classed")?;
-    with_required(alloc, command, &["class"])
 }
 
 // What the command is asked for, by what was found for its options. None where they give no edit

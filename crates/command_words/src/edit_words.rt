@@ -4,18 +4,13 @@
 //! In contracts a row is what `clap` found for one option. `GivesEdit` says what the rows ask for, and
 //! `IsEdit` what the words do.
 ghost use Rattle.std.specs.Prelude.{◌≡◌, ◌↔◌, ◌∷◌, [], IfOk, IfSome, IfNone, IsTrue, map, string_bytes};
-ghost use Rattle.clap.specs.Words.{app_of};
-ghost use Rattle.command_words.specs.Asked.{EditAsked, GivesEdit, IsEdit, edit_options};
+ghost use Rattle.command_words.specs.Asked.{EditAsked, GivesEdit, IsEdit};
 ghost use Rattle.command_words.specs.FileNames.{AreApart};
-ghost use Rattle.command_words.specs.Options.{command_with};
 ghost use Rattle.command_words.specs.inner.Found.{rows_in};
 
-use crate::file_names::{is_apart_from, lead_to_one};
-use crate::options::{
-    BUDGET, LEAST_BUDGET, MOST_BUDGET, command_named, match_words, number_in, text_in,
-    with_optional, with_required, words_behind,
-};
-use clap::{ArgMatches, Command};
+use crate::file_names::are_apart;
+use crate::options::{BUDGET, LEAST_BUDGET, MOST_BUDGET, found_in, number_in, text_in};
+use clap::ArgMatches;
 use foundation::OutOfMemory;
 use std::alloc::Global;
 use std::marker::Model;
@@ -110,29 +105,12 @@ pub fn edit_asked<'a>(
         (λ one. (other : EditAsked) → IsEdit (map string_bytes words.entry.now) other → other ≡ one)) }
     ensures none { IfOk result (λ asked. IfNone asked ((one : EditAsked) → ¬ IsEdit (map string_bytes words.entry.now) one)) }
 {
-    let Some(others) = words_behind("edit", words) else {
-        return Ok(None);
-    };
-    let Some(found) = match_words(edit_command_named(alloc, "edit")?, others)? else {
+    let required = ["rules", "records", "released", "reasons", "proof"];
+    let optional = ["workers", "budget", "limit", "near"];
+    let Some(found) = found_in(alloc, "edit", &required, &optional, words)? else {
         return Ok(None);
     };
     Ok(edit_of(&found))
-}
-
-/// The command of this name, as `clap` is told of it, with the options of an edit: five that have to stand,
-/// and four that may be left out. Both `edit` and `classed` have them.
-pub(crate) fn edit_command_named<'a>(
-    alloc: Global,
-    name: &'a str,
-) -> Result<Command<'a>, OutOfMemory>
-    ensures { IfOk result (λ command. app_of command ≡ command_with name.entry.now edit_options) }
-{
-    let command = with_required(
-        alloc,
-        command_named(alloc, name),
-        &["rules", "records", "released", "reasons", "proof"],
-    )?;
-    with_optional(alloc, command, &["workers", "budget", "limit", "near"])
 }
 
 /// What an edit is asked for, by what was found for its options. None where one of the five names was left
@@ -150,7 +128,7 @@ pub(crate) fn edit_of<'a>(found: &ArgMatches<'a>) -> Option<EditWords<'a>>
     let budget = number_in(found, "budget", BUDGET, LEAST_BUDGET, MOST_BUDGET)?;
     let limit = number_in(found, "limit", LIMIT, LEAST_LIMIT, MOST_LIMIT)?;
     let near = number_in(found, "near", NEAR, LEAST_NEAR, MOST_NEAR)?;
-    if !are_apart(rules, records, released, reasons, proof) {
+    if !are_apart(&[rules, records, released, reasons, proof]) {
         return None;
     }
     Some(EditWords {
@@ -164,21 +142,4 @@ pub(crate) fn edit_of<'a>(found: &ArgMatches<'a>) -> Option<EditWords<'a>>
         limit: limit as u32,
         near: near as u32,
     })
-}
-
-/// Whether no two of the five names lead to one file, as far as the names show. Each is compared with those
-/// behind it. The command `page` asks it of its own five names. No memory.
-pub(crate) fn are_apart(
-    rules: &str,
-    records: &str,
-    released: &str,
-    reasons: &str,
-    proof: &str,
-) -> bool
-    ensures { IsTrue result ↔ AreApart (rules.now ∷ records.now ∷ released.now ∷ reasons.now ∷ proof.now ∷ []) }
-{
-    is_apart_from(rules, &[records, released, reasons, proof])
-        && is_apart_from(records, &[released, reasons, proof])
-        && is_apart_from(released, &[reasons, proof])
-        && !lead_to_one(reasons, proof)
 }

@@ -1,22 +1,35 @@
 //! Whether the names of two files show that they lead to one file, so that a command would overwrite what
 //! it reads. A link is not seen, since no file is looked at.
-ghost use Rattle.std.specs.Prelude.{◌≡◌, ◌↔◌, IsTrue};
+ghost use Rattle.std.specs.Prelude.{◌≡◌, ◌↔◌, IsTrue, map};
 ghost use Rattle.std.specs.List.{AllByRecursion, list_any};
 ghost use Rattle.std.specs.Path.{components_remaining};
-ghost use Rattle.command_words.specs.FileNames.{LeadToOne, file_parts};
+ghost use Rattle.command_words.specs.FileNames.{AreApart, LeadToOne, file_parts};
 
 use std::path::{Components, Path};
 
-/// Whether the name leads to another file than each of the others, as far as the names show. No memory.
-pub(crate) fn is_apart_from(name: &str, others: &[&str]) -> bool
+/// Whether no two of the names lead to one file, as far as the names show. Each is compared with those behind
+/// it. No memory.
+pub(crate) fn are_apart(names: &[&str]) -> bool
+    ensures { IsTrue result ↔ AreApart (map (λ name. name.now) names.now) }
+{
+    for place in 0..names.len() {
+        if !is_apart_from(names[place], &names[place + 1..]) {
+            return false;
+        }
+    }
+    true
+}
+
+// Whether the name leads to another file than each of the others, as far as the names show.
+fn is_apart_from(name: &str, others: &[&str]) -> bool
     ensures { IsTrue result ↔ AllByRecursion (λ other. ¬ LeadToOne name.now other.now) others.now }
 {
     !others.iter().any(|other| lead_to_one(name, other))
 }
 
-/// Whether both names lead to one file, as `records.csv`, `./records.csv` and `.//records.csv` do: their
-/// folders and files are the same, part by part. No memory.
-pub(crate) fn lead_to_one(a: &str, b: &str) -> bool
+// Whether both names lead to one file, as `records.csv`, `./records.csv` and `.//records.csv` do: their
+// folders and files are the same, part by part.
+fn lead_to_one(a: &str, b: &str) -> bool
     ensures { IsTrue result ↔ LeadToOne a.now b.now }
 {
     let mut left = parts_of(a);

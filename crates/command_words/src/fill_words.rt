@@ -3,17 +3,13 @@
 //! In contracts a row is what `clap` found for one option. `GivesFill` says what the rows ask for, and
 //! `IsFill` what the words do.
 ghost use Rattle.std.specs.Prelude.{◌≡◌, ◌↔◌, ◌∷◌, [], IfOk, IfSome, IfNone, IsTrue, map, string_bytes};
-ghost use Rattle.clap.specs.Words.{app_of};
-ghost use Rattle.command_words.specs.Asked.{FillAsked, GivesFill, IsFill, fill_command};
+ghost use Rattle.command_words.specs.Asked.{FillAsked, GivesFill, IsFill};
 ghost use Rattle.command_words.specs.FileNames.{AreApart};
 ghost use Rattle.command_words.specs.inner.Found.{rows_in};
 
-use crate::file_names::{is_apart_from, lead_to_one};
-use crate::options::{
-    BUDGET, LEAST_BUDGET, MOST_BUDGET, command_named, match_words, number_in, text_in,
-    with_optional, with_required, words_behind,
-};
-use clap::{ArgMatches, Command};
+use crate::file_names::are_apart;
+use crate::options::{BUDGET, LEAST_BUDGET, MOST_BUDGET, found_in, number_in, text_in};
+use clap::ArgMatches;
 use foundation::OutOfMemory;
 use std::alloc::Global;
 use std::marker::Model;
@@ -58,25 +54,11 @@ pub fn fill_asked<'a>(
         (λ one. (other : FillAsked) → IsFill (map string_bytes words.entry.now) other → other ≡ one)) }
     ensures none { IfOk result (λ asked. IfNone asked ((one : FillAsked) → ¬ IsFill (map string_bytes words.entry.now) one)) }
 {
-    let Some(others) = words_behind("fill", words) else {
-        return Ok(None);
-    };
-    let Some(found) = match_words(command(alloc)?, others)? else {
+    let required = ["rules", "records", "released"];
+    let Some(found) = found_in(alloc, "fill", &required, &["budget"], words)? else {
         return Ok(None);
     };
     Ok(fill_of(&found))
-}
-
-// The command `fill`, as `clap` is told of it: three options that have to stand, and the budget.
-fn command<'a>(alloc: Global) -> Result<Command<'a>, OutOfMemory>
-    ensures { IfOk result (λ command. app_of command ≡ fill_command) }
-{
-    let command = with_required(
-        alloc,
-        command_named(alloc, "fill"),
-        &["rules", "records", "released"],
-    )?;
-    with_optional(alloc, command, &["budget"])
 }
 
 // What the command is asked for, by what was found for its options. None where one of the three names was
@@ -89,7 +71,7 @@ fn fill_of<'a>(found: &ArgMatches<'a>) -> Option<FillWords<'a>>
     let records = text_in(found, "records")?;
     let released = text_in(found, "released")?;
     let budget = number_in(found, "budget", BUDGET, LEAST_BUDGET, MOST_BUDGET)?;
-    if !are_apart(rules, records, released) {
+    if !are_apart(&[rules, records, released]) {
         return None;
     }
     Some(FillWords {
@@ -98,11 +80,4 @@ fn fill_of<'a>(found: &ArgMatches<'a>) -> Option<FillWords<'a>>
         released,
         budget,
     })
-}
-
-// Whether no two of the three names lead to one file, as far as the names show.
-fn are_apart(rules: &str, records: &str, released: &str) -> bool
-    ensures { IsTrue result ↔ AreApart (rules.now ∷ records.now ∷ released.now ∷ []) }
-{
-    is_apart_from(rules, &[records, released]) && !lead_to_one(records, released)
 }

@@ -4,15 +4,12 @@
 //! In contracts a row is what `clap` found for one option. `GivesMake` says what the rows ask for, and
 //! `IsMake` what the words do.
 ghost use Rattle.std.specs.Prelude.{◌≡◌, IfOk, IfSome, IfNone, map, string_bytes};
-ghost use Rattle.clap.specs.Words.{app_of};
-ghost use Rattle.command_words.specs.Asked.{GivesMake, IsMake, MakeAsked, make_command};
+ghost use Rattle.command_words.specs.Asked.{GivesMake, IsMake, MakeAsked};
 ghost use Rattle.command_words.specs.inner.Found.{rows_in};
 
-use crate::file_names::lead_to_one;
-use crate::options::{
-    command_named, match_words, number_in, text_in, with_optional, with_required, words_behind,
-};
-use clap::{ArgMatches, Command};
+use crate::file_names::are_apart;
+use crate::options::{found_in, number_in, text_in};
+use clap::ArgMatches;
 use foundation::OutOfMemory;
 use std::alloc::Global;
 use std::marker::Model;
@@ -73,22 +70,12 @@ pub fn make_asked<'a>(
         (λ one. (other : MakeAsked) → IsMake (map string_bytes words.entry.now) other → other ≡ one)) }
     ensures none { IfOk result (λ asked. IfNone asked ((one : MakeAsked) → ¬ IsMake (map string_bytes words.entry.now) one)) }
 {
-    let Some(others) = words_behind("make", words) else {
-        return Ok(None);
-    };
-    let Some(found) = match_words(command(alloc)?, others)? else {
+    let required = ["rules", "records"];
+    let optional = ["start", "rows"];
+    let Some(found) = found_in(alloc, "make", &required, &optional, words)? else {
         return Ok(None);
     };
     Ok(make_of(&found))
-}
-
-// The command `make`, as `clap` is told of it: two options that have to stand, and two that may be left
-// out.
-fn command<'a>(alloc: Global) -> Result<Command<'a>, OutOfMemory>
-    ensures { IfOk result (λ command. app_of command ≡ make_command) }
-{
-    let command = with_required(alloc, command_named(alloc, "make"), &["rules", "records"])?;
-    with_optional(alloc, command, &["start", "rows"])
 }
 
 // What the command is asked for, by what was found for its options. None where one of the two names was
@@ -101,7 +88,7 @@ fn make_of<'a>(found: &ArgMatches<'a>) -> Option<MakeWords<'a>>
     let records = text_in(found, "records")?;
     let start = number_in(found, "start", START, LEAST_START, MOST_START)?;
     let rows = number_in(found, "rows", ROWS, LEAST_ROWS, MOST_ROWS)?;
-    if lead_to_one(rules, records) {
+    if !are_apart(&[rules, records]) {
         return None;
     }
     Some(MakeWords {

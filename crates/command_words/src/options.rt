@@ -2,12 +2,14 @@
 //! taken out of what it finds.
 //!
 //! In contracts a row is what `clap` found for one option, and `first_of` is the text of the first row of
-//! a name. `app_of` is what `clap` is told of a command, and `Takes` says that it finds this in the words.
+//! a name. `app_of` is what `clap` is told of a command, and `command_of` is it for one with these options.
+//! `Finds` says that the words are this command, with these rows, and `Takes` says so of the words behind its
+//! name.
 ghost use Rattle.std.specs.Prelude.{◌≡◌, ◌≢◌, ◌∷◌, [], ℕ, List, true, false, Some, None, IfOk, IfSome, IfNone, map, string_bytes};
-ghost use Rattle.clap.specs.Words.{app_of, fault_of, first_of, is_simple_and_free, rule_of};
-ghost use Rattle.command_words.specs.Options.{GivesNumber, IsNumberText, command_with, may_stand, must_stand};
-ghost use Rattle.command_words.specs.inner.Found.{Takes, rows_in};
-ghost use Rattle.command_words.specs.inner.Made.{with_rules};
+ghost use Rattle.clap.specs.Words.{Row, app_of, fault_of, first_of, is_simple_and_free, rule_of};
+ghost use Rattle.command_words.specs.Options.{GivesNumber, IsNumberText, command_with};
+ghost use Rattle.command_words.specs.inner.Found.{Finds, Takes, rows_in};
+ghost use Rattle.command_words.specs.inner.Made.{command_of, option_named, with_rules};
 
 use clap::error::ErrorKind;
 use clap::{Arg, ArgAction, ArgMatches, Command};
@@ -26,9 +28,9 @@ pub(crate) const MOST_BUDGET: u64 = 1_000_000_000;
 /// The most digits of a number. So no number passes 64 bits.
 const MOST_DIGITS: usize = 10;
 
-/// The command of this name, as `clap` is told of it, without an option so far. The words that it is matched
-/// with begin behind its name. No flag asks for its help, so `--help` is no word of it.
-pub(crate) fn command_named<'a>(alloc: Global, name: &'a str) -> Command<'a>
+// The command of this name, as `clap` is told of it, without an option so far. The words that it is matched
+// with begin behind its name. No flag asks for its help, so `--help` is no word of it.
+fn command_named<'a>(alloc: Global, name: &'a str) -> Command<'a>
     ensures { app_of result ≡ command_with name.entry.now [] }
 {
     Command::new(alloc, name)
@@ -36,56 +38,36 @@ pub(crate) fn command_named<'a>(alloc: Global, name: &'a str) -> Command<'a>
         .disable_help_flag(true)
 }
 
-// The option `--name`, which may be left out. Where it stands, it is given one value.
-fn optional_arg<'a>(alloc: Global, name: &'a str) -> Arg<'a>
-    ensures option { rule_of result ≡ may_stand name.entry.now }
+// The option `--name`, which is given one value. It has to stand if it is `required`, and may else be left out.
+fn option_named<'a>(alloc: Global, name: &'a str, required: bool) -> Arg<'a>
+    ensures option { rule_of result ≡ option_named required name.entry.now }
     ensures local { result.global ≡ false }
 {
-    Arg::new(alloc, name).long(name).action(ArgAction::Set)
+    Arg::new(alloc, name)
+        .long(name)
+        .action(ArgAction::Set)
+        .required(required)
 }
 
-// The option `--name`, which has to stand and is given one value.
-fn required_arg<'a>(alloc: Global, name: &'a str) -> Arg<'a>
-    ensures option { rule_of result ≡ must_stand name.entry.now }
-    ensures local { result.global ≡ false }
-{
-    optional_arg(alloc, name).required(true)
-}
-
-/// The command with one more option for each of `names`, in order: `--name`, which has to stand, as the name
-/// of a file has to. `clap` refuses the words where it is left out. It differs from `with_optional` in this
-/// alone.
-pub(crate) fn with_required<'a>(
+// The command with one more option for each of `names`, in order. `clap` refuses the words where one that is
+// `required` is left out.
+fn with_options<'a>(
     alloc: Global,
     mut command: Command<'a>,
     names: &[&'a str],
+    required: bool,
 ) -> Result<Command<'a>, OutOfMemory>
-    ensures { IfOk result (λ more. app_of more ≡ with_rules (app_of command.entry) (map (λ name. must_stand name.now) names.now)) }
+    ensures { IfOk result (λ more. app_of more ≡ with_rules (app_of command.entry) (map (λ name. option_named required name.now) names.now)) }
 {
     for name in names {
-        command = command.arg(required_arg(alloc, name))?;
+        command = command.arg(option_named(alloc, name, required))?;
     }
     Ok(command)
 }
 
-/// The command with one more option for each of `names`, in order: `--name`, which may be left out, as a
-/// number may that has a default. It differs from `with_required` in this alone.
-pub(crate) fn with_optional<'a>(
-    alloc: Global,
-    mut command: Command<'a>,
-    names: &[&'a str],
-) -> Result<Command<'a>, OutOfMemory>
-    ensures { IfOk result (λ more. app_of more ≡ with_rules (app_of command.entry) (map (λ name. may_stand name.now) names.now)) }
-{
-    for name in names {
-        command = command.arg(optional_arg(alloc, name))?;
-    }
-    Ok(command)
-}
-
-/// The words behind the first one, where that is the command's `name`, byte for byte. None where it is
-/// another, or there is no word: then another command may be meant. No memory.
-pub(crate) fn words_behind<'a>(name: &str, words: &'a [String]) -> Option<&'a [String]>
+// The words behind the first one, where that is the command's `name`, byte for byte. None where it is
+// another, or there is no word: then another command may be meant. No memory.
+fn words_behind<'a>(name: &str, words: &'a [String]) -> Option<&'a [String]>
     ensures some { IfSome result (λ others. map string_bytes words.entry.now ≡ name.now ∷ map string_bytes others.now) }
     ensures none { IfNone result ((others : List (List ℕ)) → map string_bytes words.entry.now ≢ name.now ∷ others) }
 {
@@ -97,10 +79,9 @@ pub(crate) fn words_behind<'a>(name: &str, words: &'a [String]) -> Option<&'a [S
     }
 }
 
-/// What `clap` finds in the words behind the name of the command. None where it does not take them: an
-/// option is unknown, say, or one is left out that has to stand. `is_simple_and_free` says that no option
-/// has a rule on another, nor anything else that `clap`'s contracts leave open. Each command here is so.
-pub(crate) fn match_words<'a>(
+// What `clap` finds in the words behind the name of the command. None where it does not take them: an
+// option is unknown, say, or one is left out that has to stand.
+fn match_words<'a>(
     command: Command<'a>,
     words: &'a [String],
 ) -> Result<Option<ArgMatches<'a>>, OutOfMemory>
@@ -115,6 +96,32 @@ pub(crate) fn match_words<'a>(
             _ => Ok(None),
         },
     }
+}
+
+/// What `clap` finds in these words, where they are the command `name`: its name, byte for byte, and behind it
+/// words that `clap` takes. The options that are `required` have to stand, and the `optional` ones may be left
+/// out, as a number may that has a default; each is given one value. None for all other words, which may be
+/// another command. `is_simple_and_free` says that no option has a rule on another, nor anything else that
+/// `clap`'s contracts leave open. Each command here is so.
+pub(crate) fn found_in<'a>(
+    alloc: Global,
+    name: &'a str,
+    required: &[&'a str],
+    optional: &[&'a str],
+    words: &'a [String],
+) -> Result<Option<ArgMatches<'a>>, OutOfMemory>
+    requires { is_simple_and_free (command_of name.now required.now optional.now) ≡ true }
+    ensures some { IfOk result (λ found. IfSome found (λ one.
+        Finds (command_of name.entry.now required.now optional.now) (map string_bytes words.entry.now) (rows_in one))) }
+    ensures none { IfOk result (λ found. IfNone found ((rows : List Row)
+        → ¬ Finds (command_of name.entry.now required.now optional.now) (map string_bytes words.entry.now) rows)) }
+{
+    let Some(others) = words_behind(name, words) else {
+        return Ok(None);
+    };
+    let command = with_options(alloc, command_named(alloc, name), required, true)?;
+    let command = with_options(alloc, command, optional, false)?;
+    match_words(command, others)
 }
 
 /// The text that was found for the option `name`, or None where the option was left out. No memory.

@@ -3,13 +3,12 @@
 //! In contracts a row is what `clap` found for one option. `GivesPage` says what the rows ask for, and
 //! `IsPage` what the words do.
 ghost use Rattle.std.specs.Prelude.{◌≡◌, IfOk, IfSome, IfNone, map, string_bytes};
-ghost use Rattle.clap.specs.Words.{app_of};
-ghost use Rattle.command_words.specs.Asked.{PageAsked, GivesPage, IsPage, page_command};
+ghost use Rattle.command_words.specs.Asked.{PageAsked, GivesPage, IsPage};
 ghost use Rattle.command_words.specs.inner.Found.{rows_in};
 
-use crate::edit_words::are_apart;
-use crate::options::{command_named, match_words, text_in, with_required, words_behind};
-use clap::{ArgMatches, Command};
+use crate::file_names::are_apart;
+use crate::options::{found_in, text_in};
+use clap::ArgMatches;
 use foundation::OutOfMemory;
 use std::alloc::Global;
 use std::marker::Model;
@@ -60,24 +59,11 @@ pub fn page_asked<'a>(
         (λ one. (other : PageAsked) → IsPage (map string_bytes words.entry.now) other → other ≡ one)) }
     ensures none { IfOk result (λ asked. IfNone asked ((one : PageAsked) → ¬ IsPage (map string_bytes words.entry.now) one)) }
 {
-    let Some(others) = words_behind("page", words) else {
-        return Ok(None);
-    };
-    let Some(found) = match_words(command(alloc)?, others)? else {
+    let required = ["rules", "records", "released", "reasons", "page"];
+    let Some(found) = found_in(alloc, "page", &required, &[], words)? else {
         return Ok(None);
     };
     Ok(page_of(&found))
-}
-
-// The command `page`, as `clap` is told of it: five options, each of which has to stand.
-fn command<'a>(alloc: Global) -> Result<Command<'a>, OutOfMemory>
-    ensures { IfOk result (λ command. app_of command ≡ page_command) }
-{
-    with_required(
-        alloc,
-        command_named(alloc, "page"),
-        &["rules", "records", "released", "reasons", "page"],
-    )
 }
 
 // What the command is asked for, by what was found for its options. None where one of the five was left
@@ -91,7 +77,7 @@ fn page_of<'a>(found: &ArgMatches<'a>) -> Option<PageWords<'a>>
     let released = text_in(found, "released")?;
     let reasons = text_in(found, "reasons")?;
     let page = text_in(found, "page")?;
-    if !are_apart(rules, records, released, reasons, page) {
+    if !are_apart(&[rules, records, released, reasons, page]) {
         return None;
     }
     Some(PageWords {

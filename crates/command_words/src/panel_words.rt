@@ -4,17 +4,13 @@
 //! In contracts a row is what `clap` found for one option. `GivesPanel` says what the rows ask for, and
 //! `IsPanel` what the words do.
 ghost use Rattle.std.specs.Prelude.{◌≡◌, ◌↔◌, ◌∷◌, [], IfOk, IfSome, IfNone, IsTrue, map, string_bytes};
-ghost use Rattle.clap.specs.Words.{app_of};
-ghost use Rattle.command_words.specs.Asked.{PanelAsked, GivesPanel, IsPanel, panel_command};
+ghost use Rattle.command_words.specs.Asked.{PanelAsked, GivesPanel, IsPanel};
 ghost use Rattle.command_words.specs.FileNames.{AreApart};
 ghost use Rattle.command_words.specs.inner.Found.{rows_in};
 
-use crate::file_names::{is_apart_from, lead_to_one};
-use crate::options::{
-    BUDGET, LEAST_BUDGET, MOST_BUDGET, command_named, match_words, number_in, text_in,
-    with_optional, with_required, words_behind,
-};
-use clap::{ArgMatches, Command};
+use crate::file_names::are_apart;
+use crate::options::{BUDGET, LEAST_BUDGET, MOST_BUDGET, found_in, number_in, text_in};
+use clap::ArgMatches;
 use foundation::OutOfMemory;
 use std::alloc::Global;
 use std::marker::Model;
@@ -79,27 +75,13 @@ pub fn panel_asked<'a>(
         (λ one. (other : PanelAsked) → IsPanel (map string_bytes words.entry.now) other → other ≡ one)) }
     ensures none { IfOk result (λ asked. IfNone asked ((one : PanelAsked) → ¬ IsPanel (map string_bytes words.entry.now) one)) }
 {
-    let Some(others) = words_behind("panel", words) else {
-        return Ok(None);
-    };
-    let Some(found) = match_words(command(alloc)?, others)? else {
+    let required = [
+        "rules", "records", "last", "released", "reasons", "proof", "key",
+    ];
+    let Some(found) = found_in(alloc, "panel", &required, &["budget"], words)? else {
         return Ok(None);
     };
     Ok(panel_of(&found))
-}
-
-// The command `panel`, as `clap` is told of it: seven options that have to stand, and the budget.
-fn command<'a>(alloc: Global) -> Result<Command<'a>, OutOfMemory>
-    ensures { IfOk result (λ command. app_of command ≡ panel_command) }
-{
-    let command = with_required(
-        alloc,
-        command_named(alloc, "panel"),
-        &[
-            "rules", "records", "last", "released", "reasons", "proof", "key",
-        ],
-    )?;
-    with_optional(alloc, command, &["budget"])
 }
 
 // What the command is asked for, by what was found for its options. None where one of the seven was left
@@ -116,7 +98,7 @@ fn panel_of<'a>(found: &ArgMatches<'a>) -> Option<PanelWords<'a>>
     let proof = text_in(found, "proof")?;
     let key = text_in(found, "key")?;
     let budget = number_in(found, "budget", BUDGET, LEAST_BUDGET, MOST_BUDGET)?;
-    if !are_apart(rules, records, last, released, reasons, proof) {
+    if !are_apart(&[rules, records, last, released, reasons, proof]) {
         return None;
     }
     Some(PanelWords {
@@ -129,23 +111,4 @@ fn panel_of<'a>(found: &ArgMatches<'a>) -> Option<PanelWords<'a>>
         key,
         budget,
     })
-}
-
-// Whether no two of the six names lead to one file, as far as the names show. Each is compared with those
-// behind it.
-fn are_apart(
-    rules: &str,
-    records: &str,
-    last: &str,
-    released: &str,
-    reasons: &str,
-    proof: &str,
-) -> bool
-    ensures { IsTrue result ↔ AreApart (rules.now ∷ records.now ∷ last.now ∷ released.now ∷ reasons.now ∷ proof.now ∷ []) }
-{
-    is_apart_from(rules, &[records, last, released, reasons, proof])
-        && is_apart_from(records, &[last, released, reasons, proof])
-        && is_apart_from(last, &[released, reasons, proof])
-        && is_apart_from(released, &[reasons, proof])
-        && !lead_to_one(reasons, proof)
 }

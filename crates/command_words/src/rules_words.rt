@@ -3,12 +3,11 @@
 //! In contracts a row is what `clap` found for one option. `GivesRules` says what the rows ask for, and
 //! `IsRules` what the words do.
 ghost use Rattle.std.specs.Prelude.{◌≡◌, IfOk, IfSome, IfNone, map, string_bytes};
-ghost use Rattle.clap.specs.Words.{app_of};
-ghost use Rattle.command_words.specs.Asked.{GivesRules, IsRules, RulesAsked, rules_command};
+ghost use Rattle.command_words.specs.Asked.{GivesRules, IsRules, RulesAsked};
 ghost use Rattle.command_words.specs.inner.Found.{rows_in};
 
-use crate::options::{command_named, match_words, text_in, with_required, words_behind};
-use clap::{ArgMatches, Command};
+use crate::options::{found_in, text_in};
+use clap::ArgMatches;
 use foundation::OutOfMemory;
 use std::alloc::Global;
 use std::marker::Model;
@@ -40,20 +39,10 @@ pub fn rules_asked<'a>(
         (λ one. (other : RulesAsked) → IsRules (map string_bytes words.entry.now) other → other ≡ one)) }
     ensures none { IfOk result (λ asked. IfNone asked ((one : RulesAsked) → ¬ IsRules (map string_bytes words.entry.now) one)) }
 {
-    let Some(others) = words_behind("rules", words) else {
-        return Ok(None);
-    };
-    let Some(found) = match_words(command(alloc)?, others)? else {
+    let Some(found) = found_in(alloc, "rules", &["rules"], &[], words)? else {
         return Ok(None);
     };
     Ok(rules_of(&found))
-}
-
-// The command `rules`, as `clap` is told of it: one option, which has to stand.
-fn command<'a>(alloc: Global) -> Result<Command<'a>, OutOfMemory>
-    ensures { IfOk result (λ command. app_of command ≡ rules_command) }
-{
-    with_required(alloc, command_named(alloc, "rules"), &["rules"])
 }
 
 // What the command is asked for, by what was found for its option. None where that was left out.

@@ -1,9 +1,0 @@
--- The command has the options whose names were read.
-use Rattle.std.proofs.Common.{◌≡◌, map, take}
-use Rattle.clap.specs.Words.{app_of}
-use Rattle.command_words.specs.Options.{may_stand}
-use Rattle.command_words.specs.inner.Made.{with_rules}
-use Rattle.command_words.proofs.options.with_optional.Given as goal
-
-abbrev pub invariant-loop-name : goal.invariant-loop-name
-invariant-loop-name l = app_of l.command ≡ with_rules (app_of l.initial.command) (map (λ name. may_stand name.now) (take l.name-index l.names))
