@@ -57,7 +57,8 @@ fn with_options<'a>(
     names: &[&'a str],
     required: bool,
 ) -> Result<Command<'a>, OutOfMemory>
-    ensures { IfOk result (λ more. app_of more ≡ with_rules (app_of command.entry) (map (λ name. option_named required name.now) names.now)) }
+    ensures { IfOk result (λ more. app_of more
+        ≡ with_rules (app_of command.entry) (map (λ name. option_named required name.now) names.now)) }
 {
     for name in names {
         command = command.arg(option_named(alloc, name, required))?;
