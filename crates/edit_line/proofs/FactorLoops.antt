@@ -24,19 +24,11 @@ module _ (fields : List ℕ) (factors : List ℤ) (f i : ℕ) (many : length fac
       rw (add-one) (ap (λ fs. beside (pos 0) fs (drop i factors) f) (drop-cons fields i 0 below)
       ∙ ap (λ (as_ : List ℤ). beside (pos 0) (get_or fields i 0 ∷ drop (suc i) fields) as_ f) (drop-cons factors i (pos 0) (omega arith)))
 
-  pub beside-here : i < length fields → get_or fields i 0 ≡ f → get_or factors i (pos 0) ≡ beside (pos 0) (drop i fields) (drop i factors) f
-  beside-here below same = sym (beside-at below
-      ∙ ap (λ b. if b then get_or factors i (pos 0) else beside (pos 0) (drop (i + 1) fields) (drop (i + 1) factors) f)
-      ((Decides-eqb (get_or fields i 0) f).1 same))
-
   pub beside-later : i < length fields → (get_or fields i 0 ≡ f → ⊥) → beside (pos 0) (drop (i + 1) fields) (drop (i + 1) factors) f
       ≡ beside (pos 0) (drop i fields) (drop i factors) f
   beside-later below apart =
       sym (beside-at below ∙ ap (λ b. if b then get_or factors i (pos 0) else beside (pos 0) (drop (i + 1) fields) (drop (i + 1) factors) f)
       (by_test (get_or fields i 0 == f) (λ same. absurd (apart ((Decides-eqb (get_or fields i 0) f).0 same))) (λ differ. differ)))
-
-  pub beside-end : length fields ≤ i → beside (pos 0) (drop i fields) (drop i factors) f ≡ pos 0
-  beside-end past = ap (λ fs. beside (pos 0) fs (drop i factors) f) (drop_all i fields past)
 
 -- ---- fields that pass a test
 
@@ -52,9 +44,6 @@ module _ (test : ℕ → Bool) (fields : List ℕ) (factors : List ℤ) (i : ℕ
   pub only-more : i < length fields → (int_eq (get_or factors i (pos 0)) (pos 0) || test (get_or fields i 0)) ≡ true
       → stands_only test (drop (i + 1) fields) (drop (i + 1) factors) ≡ stands_only test (drop i fields) (drop i factors)
   only-more below may = sym (only-at below ∙ ap (λ b. b && stands_only test (drop (i + 1) fields) (drop (i + 1) factors)) may)
-
-  pub only-end : length fields ≤ i → stands_only test (drop i fields) (drop i factors) ≡ true
-  only-end past = ap (λ fs. stands_only test fs (drop i factors)) (drop_all i fields past)
 
 -- the factor 0 does not count
 pub zero-may : (a : ℤ) (passes : Bool) → a ≡ pos 0 → (int_eq a (pos 0) || passes) ≡ true

@@ -1,11 +1,14 @@
-use Rattle.std.proofs.Common.{◌≡◌, ◌&&◌, ◌||◌, ◌==◌, Bool, true, false, ℕ, zero, suc, ℤ, pos, List, [], ◌∷◌, refl, sym, ap, ◌∙◌, arith}
-use Rattle.std.specs.List.{fold, list_all, remove}
+use Rattle.std.proofs.Common.{◌≡◌, ◌&&◌, ◌||◌, ◌==◌, ◌<◌, ◌++◌, not, if◌then◌else◌, Bool, true, false, ℕ, zero, suc, ℤ, pos, List, [], ◌∷◌, get_or, length}
+use Rattle.std.proofs.Common.{refl, sym, ap, ◌∙◌, arith}
+use Rattle.std.specs.List.{filter, fold, list_all, list_any, remove}
 use Rattle.std.specs.Ordering.{int_eq}
 use Rattle.std.proofs.lemmas.Bool.Decides.{Decides-int_eq}
-use Rattle.edit_line.specs.inner.Keys.{key_of, key_with, keys_of, may_subsume}
+use Rattle.edit_line.specs.inner.Keys.{key_of, key_with, keys_of, left_from, may_subsume, not_under}
 use Rattle.edit_line.specs.Lines.{LineParts}
+use Rattle.edit_line.specs.Reductions.{derived_from, with_derived}
 use Rattle.edit_line.specs.declared.derived.Derived.{Derived}
-use Rattle.edit_line.specs.Subsumption.{is_false, is_tighter, same_all, subsumes}
+use Rattle.edit_line.specs.declared.derived.Origin.{Origin}
+use Rattle.edit_line.specs.Subsumption.{is_false, is_tighter, is_trivial, same_all, subsumes}
 use Rattle.edit_line.proofs.BoolLaws.{true-first, true-second}
 use Rattle.edit_line.proofs.SetLaws.{both_true}
 use Rattle.edit_line.proofs.SubsumptionLaws.{same_all-Decides}
@@ -50,3 +53,27 @@ keys-removed [] place = keys-none place
     keys-none (suc place) = refl
 keys-removed (d ∷ lines) zero = refl
 keys-removed (d ∷ lines) (suc place) = ap (λ ks. key_of d.line.factors ∷ ks) (keys-removed lines place)
+
+-- the lines that are left, where the one at the place is subsumed and removed
+pub left-removed : (line : LineParts) (lines : List Derived) (place : ℕ) (d : Derived) → place < length lines → d ≡ get_or lines place d
+    → subsumes line d.line ≡ true → left_from place line (remove lines place) ≡ left_from place line lines
+left-removed line [] place d below is under = absurd (omega arith)
+left-removed line (e ∷ lines) zero d below is under =
+    sym (ap (λ b. if not b then e ∷ not_under line lines else not_under line lines) (ap (λ (x : Derived). subsumes line x.line) (sym is) ∙ under))
+left-removed line (e ∷ lines) (suc place) d below is under = ap (λ (ds : List Derived). e ∷ ds) (left-removed line lines place d (omega arith) is under)
+
+-- the lines that are left, where the one at the place is not subsumed
+pub left-passed : (line : LineParts) (lines : List Derived) (place : ℕ) (d : Derived) → place < length lines → d ≡ get_or lines place d
+    → subsumes line d.line ≡ false → left_from (suc place) line lines ≡ left_from place line lines
+left-passed line [] place d below is over = absurd (omega arith)
+left-passed line (e ∷ lines) zero d below is over =
+    sym (ap (λ b. if not b then e ∷ not_under line lines else not_under line lines) (ap (λ (x : Derived). subsumes line x.line) (sym is) ∙ over))
+left-passed line (e ∷ lines) (suc place) d below is over = ap (λ (ds : List Derived). e ∷ ds) (left-passed line lines place d (omega arith) is over)
+
+-- a line that says something, and that no kept line subsumes, comes last
+pub taken-last : (kept : List Derived) (line copy : LineParts) (origin : Origin) → copy ≡ line → is_trivial line ≡ false
+    → list_any (λ (a : Derived). subsumes a.line line) kept ≡ false
+    → filter (λ (b : Derived). not (subsumes copy b.line)) kept ++ derived_from copy origin ∷ [] ≡ with_derived kept (derived_from line origin)
+taken-last kept line copy origin is says over =
+    (λ k. filter (λ (b : Derived). not (subsumes (is k) b.line)) kept ++ derived_from (is k) origin ∷ [])
+    ∙ sym (λ k. if says k || over k then kept else filter (λ (b : Derived). not (subsumes line b.line)) kept ++ derived_from line origin ∷ [])

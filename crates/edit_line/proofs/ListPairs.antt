@@ -23,7 +23,17 @@ sum-formed m n a b x y first second sum first_is is second_is also sum_is = by (
     by true false u v h k = absurd (cc)
     by false q u v h k = absurd (cc)
 
--- and is in range
+-- and is not where one of the products is not
+pub unformed-first : (p q : Bool) (u z : ℤ) → (if p then Some u else None) ≡ None → None ≡ (if p && q then Some z else None)
+unformed-first true q u z out = absurd (cc)
+unformed-first false q u z out = refl
+
+pub unformed-second : (p q r : Bool) (u z : ℤ) → (if q then Some u else None) ≡ None → None ≡ (if p && (q && r) then Some z else None)
+unformed-second true true r u z out = absurd (cc)
+unformed-second true false r u z out = refl
+unformed-second false q r u z out = refl
+
+-- where it is formed it is in range
 pub fits-sum : (m n a b : ℤ) → sum_fits m n a b ≡ true → InRange (m *ℤ a +ℤ n *ℤ b)
 fits-sum m n a b fits = (Decides-ltb (unsigned_abs (m *ℤ a +ℤ n *ℤ b)) (2 ^ 127)).0 (both_true _ _ (both_true _ _ fits).1).1
 

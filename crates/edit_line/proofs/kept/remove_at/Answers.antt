@@ -1,9 +1,20 @@
-use Rattle.std.proofs.Common.{◌∙◌, ap, sym, remove}
-use Rattle.edit_line.specs.inner.Keys.{keys_of}
-use Rattle.edit_line.proofs.KeyLaws.{keys-removed}
+use Rattle.std.proofs.Common.{◌∙◌, add-one, ap, sym, remove, List}
+use Rattle.edit_line.specs.inner.Keys.{keys_of, left_from}
+use Rattle.edit_line.specs.declared.derived.Derived.{Derived}
+use Rattle.edit_line.proofs.KeyLaws.{keys-removed, left-passed, left-removed}
 use Rattle.edit_line.proofs.kept.remove_at.Goals as goal
 
 pub returns-then-subsumes_keyed-clause-keyed : goal.returns-then-subsumes_keyed-clause-keyed
 returns-then-subsumes_keyed-clause-keyed c =
     c.remove-then-subsumes_keyed.ensures.items ∙ ap (λ ks. remove ks c.args.place) c.requires.keyed ∙ keys-removed c.args.lines.now.items c.args.place
     ∙ ap keys_of (sym c.remove.ensures.items)
+
+pub returns-then-subsumes_keyed-clause-lines : goal.returns-then-subsumes_keyed-clause-lines
+returns-then-subsumes_keyed-clause-lines c =
+    ap (λ (ds : List Derived). left_from c.args.place c.args.line.now ds) c.remove.ensures.items
+    ∙ left-removed c.args.line.now c.args.lines.now.items c.args.place c.index.result.now c.requires.place c.index.ensures (sym c.if-subsumes_keyed.ensures)
+
+pub returns-else-subsumes_keyed-clause-lines : goal.returns-else-subsumes_keyed-clause-lines
+returns-else-subsumes_keyed-clause-lines c =
+    rw (add-one) (left-passed c.args.line.now c.args.lines.now.items c.args.place c.index.result.now c.requires.place c.index.ensures
+    (sym c.if-subsumes_keyed.ensures))
