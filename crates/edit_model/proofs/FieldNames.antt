@@ -24,32 +24,31 @@ pub new_field : (fields : List Field) (name : List ℕ) → All (λ n. n ≢ nam
 new_field fields name new k d below same =
     new k d.name (subst (λ (n : ℕ). k < n) (sym (length-map fields (λ (f : Field). f.name))) below) (name_at fields k d d.name below ∙ same)
 
--- the field at a place, among those that come after others
-module _ (fields : List Field) (i : ℕ) (field : Field) (below : i < length fields) (here : field ≡ get_or fields i field) where
-  many_before : length (take i fields) ≡ i
-  many_before = length-take-le i fields (omega arith)
+-- the element at a place, which has a name, among those that come after others
+module _ {X : Type 0} (name_of : X → List ℕ) (xs : List X) (i : ℕ) (x : X) (below : i < length xs) (here : x ≡ get_or xs i x) where
+  many_before : length (take i xs) ≡ i
+  many_before = length-take-le i xs (omega arith)
 
-  named_here : (d : Field) → (get_or fields i d).name ≡ field.name
-  named_here d = ap (λ (f : Field). f.name) (get_or_default fields i d field below ∙ sym here)
+  named_here : (d : X) → name_of (get_or xs i d) ≡ name_of x
+  named_here d = ap name_of (get_or_default xs i d x below ∙ sym here)
 
-  -- where all fields have distinct names, none before it has its name
-  pub name_is_new : AllPairs (λ (f : Field) (g : Field). f.name ≢ g.name) fields → All (λ (f : Field). f.name ≢ field.name) (take i fields)
+  -- where all elements have distinct names, none before it has its name
+  pub name_is_new : AllPairs (λ (y : X) (z : X). name_of y ≢ name_of z) xs → All (λ (y : X). name_of y ≢ name_of x) (take i xs)
   name_is_new distinct j d under same =
       let many = many_before in
       let earlier : j < i = omega arith in
-      distinct j i d earlier below (ap (λ (f : Field). f.name) (sym (get_or-take i fields j d earlier)) ∙ same ∙ sym (named_here d))
+      distinct j i d earlier below (ap name_of (sym (get_or-take i xs j d earlier)) ∙ same ∙ sym (named_here d))
 
-  -- where the fields before it have distinct names and none has its name, the fields up to it have distinct names
-  pub distinct_more : ((j k : ℕ) (d : Field) → j < k → k < i → (get_or fields j d).name ≢ (get_or fields k d).name)
-      → All (λ (f : Field). f.name ≢ field.name) (take i fields)
-      → (j k : ℕ) (d : Field) → j < k → k < i + 1 → (get_or fields j d).name ≢ (get_or fields k d).name
+  -- where the elements before it have distinct names and none has its name, the elements up to it have distinct names
+  pub distinct_more : ((j k : ℕ) (d : X) → j < k → k < i → name_of (get_or xs j d) ≢ name_of (get_or xs k d))
+      → All (λ (y : X). name_of y ≢ name_of x) (take i xs)
+      → (j k : ℕ) (d : X) → j < k → k < i + 1 → name_of (get_or xs j d) ≢ name_of (get_or xs k d)
   distinct_more before new j k d earlier under same = elim (cases_lt k i) [
     | inl first ↦ before j k d earlier first same
     | inr last ↦
         let many = many_before in
         let at : k ≡ i = omega arith in
-        new j d (omega arith) (ap (λ (f : Field). f.name) (get_or-take i fields j d (omega arith)) ∙ same ∙ ap (λ (n : ℕ). (get_or fields n d).name) at
-        ∙ named_here d)
+        new j d (omega arith) (ap name_of (get_or-take i xs j d (omega arith)) ∙ same ∙ ap (λ (n : ℕ). name_of (get_or xs n d)) at ∙ named_here d)
   ]
 
 -- a table of the fields' names, up to the field at a place
@@ -64,7 +63,7 @@ module _ (fields : List Field) (i : ℕ) (table : List (List ℕ)) (field : Fiel
   pub still_new : AllPairs (λ (f : Field) (g : Field). f.name ≢ g.name) fields → All (λ n. n ≢ field.name) table
   still_new distinct =
       subst (λ (ns : List (List ℕ)). All (λ n. n ≢ field.name) ns) (sym are)
-      (All-map (λ n. n ≢ field.name) (λ (f : Field). f.name) (take i fields) (name_is_new fields i field below here distinct))
+      (All-map (λ n. n ≢ field.name) (λ (f : Field). f.name) (take i fields) (name_is_new (λ (f : Field). f.name) fields i field below here distinct))
 
 -- where no place passes a test, the first that does is past the end
 past_all : (test : List ℕ → Bool) (names : List (List ℕ)) → position test names ≡ None → length names ≤ position_or_len test names

@@ -1,4 +1,4 @@
-use Rattle.std.proofs.Common.{◌≡◌, ◌≢◌, ℕ, Bool, true, false, not, All, List, get_or, refl, sym}
+use Rattle.std.proofs.Common.{◌≡◌, ◌≢◌, ℕ, Bool, true, false, not, All, List, [], ◌∷◌, ap, arith, get_or, length, refl, sym}
 use Rattle.std.specs.Bool.{Decides}
 use Rattle.std.specs.List.{list_any}
 use Rattle.std.specs.Str.{bytes_eq}
@@ -28,3 +28,9 @@ none_of_words name words = (differs, none)
     none h =
         let e : list_any (λ word. bytes_eq name word) words ≡ false = list_any_none (λ word. bytes_eq name word) words
         (λ k d below. false_unless _ (λ same. h k d below ((bytes_eq-Decides name (get_or words k d)).0 same))) in rw e refl
+
+-- a list of one element
+pub only-one : {X : Type 0} (xs : List X) (x : X) → length xs ≡ 1 → x ≡ get_or xs 0 x → xs ≡ x ∷ []
+only-one [] x one is = absurd (omega (arith, one))
+only-one (y ∷ []) x one is = ap (λ z. z ∷ []) (sym is)
+only-one (y ∷ z ∷ xs) x one is = absurd (omega (arith, one))

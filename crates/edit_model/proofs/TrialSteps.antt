@@ -1,9 +1,12 @@
-use Rattle.std.proofs.Common.{◌≡◌, ℤ, pos, ◌*ℤ◌, Option, Some, Result, Ok, sym, ap, ◌∙◌}
+use Rattle.std.proofs.Common.{◌≡◌, ℕ, ◌+◌, ◌<◌, ℤ, pos, ◌*ℤ◌, List, Option, Some, Result, Ok, drop, get_or, length, sym, ap, ◌∙◌}
+use Rattle.std.proofs.lemmas.List.{at_drop_more}
 use Rattle.foundation.specs.Options.{◌>>?◌}
 use Rattle.fraction128.proofs.CommonDenominator.{whole_is}
 use Rattle.fraction128.specs.Formulas.{Ratio, added, answered, ratio_of, scaled}
 use Rattle.fraction128.specs.declared.fraction.Fraction.{Fraction}
-use Rattle.edit_model.specs.Trials.{sum_with}
+use Rattle.edit_model.specs.Rows.{value_of}
+use Rattle.edit_model.specs.Trials.{sum_over, sum_with}
+use Rattle.edit_model.specs.declared.rule.Term.{Term}
 use Rattle.edit_model.specs.declared.value.Value.{Value}
 use Rattle.edit_model.specs.declared.value.Value.TheVariants.{Number}
 
@@ -23,3 +26,13 @@ pub over_one : (x : Fraction) (n given : ℤ) → given ≡ n → x.numerator *�
     ≡ record { numerator = n; denominator = pos 1 }
 over_one x n given same is =
     let whole = whole_is x n (is ∙ ap (λ (z : ℤ). z *ℤ x.denominator) same) in λ i. record { numerator = whole.0 i; denominator = whole.1 i }
+
+-- the sum of a test's terms up to a place, and with the term there
+pub sum-more : (terms items : List Term) (row : List Value) (whole : Option Ratio) (i : ℕ) (d : Term) (sum next : Ratio) → items ≡ terms → i < length items
+    → Some next ≡ sum_with sum (get_or items i d).factor (value_of row (get_or items i d).field) → sum_over (drop i terms) row sum ≡ whole
+    → sum_over (drop (i + 1) terms) row next ≡ whole
+sum-more terms items row whole i d sum next same below is before =
+    ap (λ (ts : List Term). sum_over (drop (i + 1) ts) row next) (sym same)
+    ∙ ap (λ (o : Option Ratio). (o >>? (λ z. sum_over (drop (i + 1) items) row z))) is
+    ∙ sym (at_drop_more (λ (ts : List Term). sum_over ts row sum) items i d below)
+    ∙ ap (λ (ts : List Term). sum_over (drop i ts) row sum) same ∙ before

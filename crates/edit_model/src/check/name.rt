@@ -2,6 +2,7 @@
 ghost use Rattle.std.specs.Prelude.{◌≡◌, ◌≢◌, ◌==◌, ◌||◌, ◌≤◌, ◌↔◌, All, IsTrue, length};
 ghost use Rattle.std.specs.List.{list_all, list_any};
 ghost use Rattle.std.specs.Str.{bytes_eq};
+ghost use Rattle.edit_model.specs.inner.ReservedWords.{field_words, rule_words};
 ghost use Rattle.edit_model.specs.Surveys.{IsName, has_code_form, is_digit, is_letter, has_name_form, reserved_words};
 
 use crate::name::Name;
@@ -37,19 +38,32 @@ fn has_name_form(bytes: &[u8]) -> bool
     }
 }
 
-// Whether the bytes are a word of the rule language, which no field may have as its name.
-fn is_reserved(bytes: &[u8]) -> bool
-    ensures { result ≡ list_any (λ word. bytes_eq bytes.now word) reserved_words }
+// Whether the bytes are a word with which a field is declared.
+fn is_field_word(bytes: &[u8]) -> bool
+    ensures { result ≡ list_any (λ word. bytes_eq bytes.now word) field_words }
 {
     bytes == b"number".as_slice()
         || bytes == b"code".as_slice()
         || bytes == b"weight".as_slice()
         || bytes == b"scale".as_slice()
-        || bytes == b"in".as_slice()
+}
+
+// Whether the bytes are a word with which a rule is written.
+fn is_rule_word(bytes: &[u8]) -> bool
+    ensures { result ≡ list_any (λ word. bytes_eq bytes.now word) rule_words }
+{
+    bytes == b"in".as_slice()
         || bytes == b"not".as_slice()
         || bytes == b"if".as_slice()
         || bytes == b"and".as_slice()
         || bytes == b"then".as_slice()
+}
+
+// Whether the bytes are a word of the rule language, which no field may have as its name.
+fn is_reserved(bytes: &[u8]) -> bool
+    ensures { result ≡ list_any (λ word. bytes_eq bytes.now word) reserved_words }
+{
+    is_field_word(bytes) || is_rule_word(bytes)
 }
 
 /// Whether a field may have the name: a letter with letters, digits and `_` behind it, and none of the

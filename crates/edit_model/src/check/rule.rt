@@ -1,5 +1,5 @@
 //! Whether a rule fits the fields of a survey, and has a form that the editor takes.
-ghost use Rattle.std.specs.Prelude.{◌<◌, ◌^◌, ◌↔◌, IsTrue};
+ghost use Rattle.std.specs.Prelude.{◌<◌, ◌^◌, ◌↔◌, All, IsTrue};
 ghost use Rattle.edit_model.specs.Surveys.{IsSetOf, HasForm, IsCodeTest, IsOrderTest, IsRule, IsTest};
 
 use crate::check::linear::is_linear;
@@ -39,11 +39,25 @@ fn is_test(fields: &[Field], test: &Test) -> bool
     }
 }
 
+// Whether each of the tests fits the fields.
+fn are_tests(fields: &[Field], tests: &[Test]) -> bool
+    ensures { IsTrue result ↔ All (IsTest fields.now) tests.now }
+{
+    tests.iter().all(|test| is_test(fields, test))
+}
+
 // Whether the test is on codes.
 fn is_code_test(test: &Test) -> bool
     ensures { IsTrue result ↔ IsCodeTest test.now }
 {
     matches!(test, Test::Codes { .. })
+}
+
+// Whether all these tests are on codes.
+fn are_code_tests(tests: &[Test]) -> bool
+    ensures { IsTrue result ↔ All IsCodeTest tests.now }
+{
+    tests.iter().all(is_code_test)
 }
 
 // Whether the test compares a sum with 0, but not by `=`.
@@ -62,7 +76,7 @@ fn has_form(rule: &Rule) -> bool
     ensures { IsTrue result ↔ HasForm rule.now }
 {
     let conditions = rule.conditions.as_slice();
-    if conditions.iter().all(is_code_test) {
+    if are_code_tests(conditions) {
         return true;
     }
     match conditions {
@@ -75,10 +89,7 @@ fn has_form(rule: &Rule) -> bool
 pub(crate) fn is_rule(fields: &[Field], rule: &Rule) -> bool
     ensures { IsTrue result ↔ IsRule fields.now rule.now }
 {
-    rule.conditions
-        .as_slice()
-        .iter()
-        .all(|test| is_test(fields, test))
+    are_tests(fields, rule.conditions.as_slice())
         && is_test(fields, &rule.conclusion)
         && has_form(rule)
 }

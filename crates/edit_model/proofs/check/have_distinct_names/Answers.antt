@@ -1,4 +1,5 @@
 use Rattle.std.proofs.Common.{◌≡◌, ◌≢◌, ◌∙◌, All, List, ℕ, rules, subst, true}
+use Rattle.edit_model.specs.declared.field.Field.{Field}
 use Rattle.edit_model.proofs.FieldNames.{distinct_more, names_more, new_field, still_new}
 use Rattle.edit_model.proofs.check.have_distinct_names.Goals as goal
 
@@ -20,7 +21,7 @@ loop-field-preserved c =
       names = put.0 ∙ names_more c.args.fields.now c.loop-field.field-index c.loop-field.names c.field-item.result c.loop-field-test.true names
           c.field-item.is;
       distinct =
-          distinct_more c.args.fields.now c.loop-field.field-index c.field-item.result c.loop-field-test.true c.field-item.is
+          distinct_more (λ (f : Field). f.name) c.args.fields.now c.loop-field.field-index c.field-item.result c.loop-field-test.true c.field-item.is
           c.loop-field.invariant.distinct (new_field _ c.field-item.result.name (subst (λ (ns : List (List ℕ)). All (λ n. n ≢ c.field-item.result.name) ns)
           names put.1));
     }
