@@ -1,10 +1,15 @@
 use Rattle.std.proofs.Common.{◌≡◌, ℕ, suc, ◌+◌, ◌<◌, ◌==◌, ◌||◌, Bool, true, false, cond, not, if◌then◌else◌, List, [], ◌∷◌, Some, None, length, nat_lt, refl}
-use Rattle.std.proofs.Common.{ap, ◌∙◌, arith}
+use Rattle.std.proofs.Common.{ap, ◌∙◌, arith, slice_index_or, slice_set, sym}
 use Rattle.std.specs.List.{position, position_or_len}
 use Rattle.std.proofs.lemmas.Bool.Decides.{nat_tests}
+use Rattle.edit_model.specs.declared.value.Value.{Value}
+use Rattle.edit_line.specs.Boxes.{box_of}
+use Rattle.edit_line.specs.CodeFields.{place_of}
 use Rattle.edit_line.specs.Shapes.{Domain, code_fields, has_field, place_in, whole_sets}
 use Rattle.edit_line.proofs.ShapeLaws.{length-wholes, place-within}
 use Rattle.derivation.specs.inner.Meanings.{place_there}
+use Rattle.derivation.specs.ValidSteps.{fixed_sets, has_value, only_if, whole_box}
+use Rattle.derivation.specs.declared.proved.Proved.TheVariants.{Box}
 
 -- The places of a survey's categorical fields.
 
@@ -57,3 +62,22 @@ there-has fields f place e = by (has_field fields f) e
 pub place-wholes : (shape : List Domain) (f place : ℕ) → place_there (code_fields shape) f ≡ Some place → place < length (whole_sets shape)
 place-wholes shape f place e = let (there, is) = there-has (code_fields shape) f place e in
     omega (arith, is, place-within (code_fields shape) f there, length-wholes 0 shape)
+
+-- ---- a box that is made whole at the place of a field
+
+module _ (shape : List Domain) (f place : ℕ) (sets : List ℕ) (at : place_there (code_fields shape) f ≡ Some place) where
+  place_is : place ≡ place_of shape f
+  place_is = (there-has (code_fields shape) f place at).1
+
+  -- whether the value is a code of the set there decides on it
+  pub fixed-by : (v found : Value) (read : List ℕ) (b : Bool) → found ≡ v → read ≡ sets → has_value (slice_index_or read place 0) found ≡ b
+      → fixed_sets shape f v sets ≡ only_if b (whole_box shape f sets)
+  fixed-by v found read b found_is read_is is =
+      ap (λ b. only_if b (whole_box shape f sets)) (sym (λ k. has_value (slice_index_or (read_is k) (place_is k) 0) (found_is k)) ∙ is)
+
+  -- what it is made with
+  pub whole-made : (items : List ℕ) (whole : ℕ) → items ≡ sets → whole ≡ slice_index_or (whole_sets shape) place 0
+      → Box (box_of shape (slice_set items place whole)) ≡ whole_box shape f sets
+  whole-made items whole items_are whole_is =
+      (λ k. Box (box_of shape (slice_set (items_are k) place (whole_is k))))
+      ∙ (λ k. Box (box_of shape (slice_set sets (place_is k) (slice_index_or (whole_sets shape) (place_is k) 0))))

@@ -83,6 +83,14 @@ common-more earlier at code parts common sets next whole below here next_is befo
     ∙ before
     )
 
+-- nothing, where the next part has not the code
+pub common-missing : (earlier : List Proved) (at code : ℕ) (parts common : List ℕ) (whole : Option (List ℕ)) → code < length parts
+    → None ≡ part_with earlier at code (slice_index parts code) → common_from earlier at code (drop code parts) common ≡ whole → None ≡ whole
+common-missing earlier at code parts common whole below none before =
+    ap (λ (o : Option (List ℕ)). (o >>? (λ ns. common_from earlier at (suc code) (drop (suc code) parts) (in_both common ns)))) none
+    ∙ ap (λ (ps : List ℕ). common_from earlier at code ps common) (sym (drop-cons parts code 0 below))
+    ∙ before
+
 module _ (earlier : List Proved) (at whole : ℕ) (codes : List ℕ) where
   -- codes in what the parts and the sets so far have in common are in the sets so far
   common-before : (code : ℕ) (parts common last : List ℕ) → common_from earlier at code parts common ≡ Some last → inside_but at whole codes last ≡ true

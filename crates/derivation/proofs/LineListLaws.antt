@@ -1,5 +1,5 @@
-use Rattle.std.proofs.Common.{◌≡◌, ℕ, suc, ◌+◌, ◌<◌, ◌⊎◌, inl, inr, List, [], ◌∷◌, ◌++◌, Option, Some, Result, Ok, drop, get_or, length, slice_get, sym, ap}
-use Rattle.std.proofs.Common.{subst, ◌∙◌, add-one}
+use Rattle.std.proofs.Common.{◌≡◌, ℕ, suc, ◌+◌, ◌<◌, ◌⊎◌, inl, inr, List, [], ◌∷◌, ◌++◌, Option, Some, None, Result, Ok, Err, drop, get_or, length, slice_get}
+use Rattle.std.proofs.Common.{ap, sym, subst, ◌∙◌, add-one}
 use Rattle.std.proofs.Math.Seq.{drop-cons}
 use Rattle.std.specs.Option.{ok_or}
 use Rattle.foundation.specs.Results.{◌>>=◌}
@@ -67,6 +67,12 @@ module _ (p : Premises) (steps : List Step) (lines : List LineParts) (i : ℕ) (
       → lines_from p (lines ++ line ∷ []) (drop (i + 1) steps) ≡ whole
   line-more one line below is some =
       rw (add-one) (ap (λ (o : Option LineParts). (ok_or o (length lines) >>= (λ x. lines_from p (lines ++ x ∷ []) (drop (suc i) steps)))) some
+      ∙ line-next one below is)
+
+  -- one that gives no line ends in the fault that names it
+  pub line-missing : (one : Step) → i < length steps → one ≡ get_or steps i one → None ≡ line_by p lines one → whole ≡ Err (length lines)
+  line-missing one below is none =
+      sym (ap (λ (o : Option LineParts). (ok_or o (length lines) >>= (λ x. lines_from p (lines ++ x ∷ []) (drop (suc i) steps)))) none
       ∙ line-next one below is)
 
 -- all lines of a table are known

@@ -1,13 +1,17 @@
-use Rattle.std.proofs.Common.{◌≡◌, ℕ, suc, ◌+◌, ◌<◌, List, [], ◌∷◌, ◌++◌, Option, Some, None, Result, Ok, drop, get_or, length, map, refl, sym, ap, ◌∙◌, inl}
-use Rattle.std.proofs.Common.{inr, add-one, arith}
+use Rattle.std.proofs.Common.{◌≡◌, ℕ, suc, ◌+◌, ◌<◌, List, [], ◌∷◌, ◌++◌, Option, Some, None, Result, Ok, Err, drop, get_or, length, map, sym, ap, ◌∙◌, inl}
+use Rattle.std.proofs.Common.{inr, refl, add-one, arith}
 use Rattle.std.proofs.Math.Seq.{drop-cons}
 use Rattle.std.proofs.lemmas.List.Elements.{All-cons}
+use Rattle.std.proofs.lemmas.Result.{err_from_is_err_and}
 use Rattle.std.specs.Option.{ok_or}
+use Rattle.std.specs.Result.{IsErrAnd}
 use Rattle.foundation.specs.Results.{◌>>=◌}
 use Rattle.derivation.specs.inner.Meanings.{AllOver, meaning}
 use Rattle.derivation.specs.Premises.{Premises}
 use Rattle.derivation.specs.Shown.{IsOver}
 use Rattle.derivation.specs.ValidSteps.{last_from, proved_by, proved_from}
+use Rattle.derivation.specs.declared.fault.StepsFault.{StepsFault}
+use Rattle.derivation.specs.declared.fault.StepsFault.TheVariants.{Bad, OutOfMemory}
 use Rattle.derivation.specs.declared.known.Known.{Known}
 use Rattle.derivation.specs.declared.proved.Proved.{Proved}
 use Rattle.derivation.specs.declared.step.Step.{Step}
@@ -29,6 +33,19 @@ module _ (p : Premises) (steps : List Step) (earlier : List Proved) (i : ℕ) (w
   valid-more one x below is some =
       rw (add-one) (ap (λ (o : Option Proved). (ok_or o (length earlier) >>= (λ x. proved_from p (earlier ++ x ∷ []) (drop (suc i) steps)))) some
       ∙ next one below is)
+
+  -- one that is not valid ends in the fault that names it
+  pub invalid-there : (one : Step) → i < length steps → one ≡ get_or steps i one → None ≡ proved_by p earlier one → whole ≡ Err (length earlier)
+  invalid-there one below is none =
+      sym (ap (λ (o : Option Proved). (ok_or o (length earlier) >>= (λ x. proved_from p (earlier ++ x ∷ []) (drop (suc i) steps)))) none ∙ next one below is)
+
+-- where memory is refused, no step is named
+pub memory-named : {T : Type 0} (r : Result T StepsFault) (place : ℕ) → IsErrAnd r (λ (f : StepsFault). f ≡ OutOfMemory) → r ≡ Err (Bad place) → ⊥
+memory-named r place refused named = let memory = err_from_is_err_and r refused in absurd (cc (memory.1, memory.2, named))
+
+-- a fault names one place
+pub named-place : {T : Type 0} (r : Result T StepsFault) (a b : ℕ) → r ≡ Err (Bad a) → r ≡ Err (Bad b) → a ≡ b
+named-place r a b first second = cc (first, second)
 
 -- the last of what was proved
 pub last-push : (before : Option Proved) (all : List Proved) (x : Proved) → last_from before (all ++ x ∷ []) ≡ Ok x

@@ -13,7 +13,7 @@ use std::alloc::Global;
 
 /// What a step proved. A given line is not copied, and another stands behind a pointer, so that a long list
 /// of given lines stays small.
-#[derive(Debug, Drop)]
+#[derive(Drop)]
 pub(crate) enum Known<'a> {
     Given(&'a Line),
     Line(Box<Line>),

@@ -1,7 +1,8 @@
-use Rattle.std.proofs.Common.{◌≡◌, [], ◌∷◌, ◌++◌, ◌+◌, List, Some, drop, length, length-append, refl, sym, ap, subst, ◌∙◌, arith}
+use Rattle.std.proofs.Common.{◌≡◌, [], ◌∷◌, ◌++◌, ◌+◌, ℕ, List, None, Some, Err, drop, length, length-append, refl, sym, ap, subst, ◌∙◌, arith}
 use Rattle.edit_line.specs.Lines.{HaveOneShape, LineParts}
 use Rattle.derivation.specs.LineLists.{line_by, lines_from, no_record}
-use Rattle.derivation.proofs.LineListLaws.{AllLinesKnown, known-follow, known-over, line-more, more-lines-known}
+use Rattle.derivation.proofs.LineListLaws.{AllLinesKnown, known-follow, known-over, line-missing, line-more, more-lines-known}
+use Rattle.derivation.proofs.StepLoop.{memory-named, named-place}
 use Rattle.derivation.proofs.listing.line_list.Goals as goal
 
 pub line_of-requires-clause-one_shape : goal.line_of-requires-clause-one_shape
@@ -29,3 +30,33 @@ returns-clause-follow c = known-follow (no_record c.args.survey.now c.args.given
 
 pub returns-clause-over : goal.returns-clause-over
 returns-clause-over c = known-over (no_record c.args.survey.now c.args.given.now c.args.usable.now) c.loop-step.lines.items c.loop-step.invariant.1
+
+pub returns-in_err-lines-clause-bad : goal.returns-in_err-lines-clause-bad
+returns-in_err-lines-clause-bad c = λ place is. absurd (memory-named c.from_residual.result place c.from_residual.ensures.1 is)
+
+pub returns-in_err-lines-clause-named : goal.returns-in_err-lines-clause-named
+returns-in_err-lines-clause-named c = λ place is. absurd (memory-named c.from_residual.result place c.from_residual.ensures.1 is)
+
+pub returns-in_err-line-clause-bad : goal.returns-in_err-line-clause-bad
+returns-in_err-line-clause-bad c = λ place is. absurd (memory-named c.from_residual-in_err-line.result place c.from_residual-in_err-line.ensures.1 is)
+
+pub returns-in_err-line-clause-named : goal.returns-in_err-line-clause-named
+returns-in_err-line-clause-named c = λ place is. absurd (memory-named c.from_residual-in_err-line.result place c.from_residual-in_err-line.ensures.1 is)
+
+pub returns-in_err-push-clause-bad : goal.returns-in_err-push-clause-bad
+returns-in_err-push-clause-bad c = λ place is. absurd (memory-named c.from_residual-in_err-push.result place c.from_residual-in_err-push.ensures.1 is)
+
+pub returns-in_err-push-clause-named : goal.returns-in_err-push-clause-named
+returns-in_err-push-clause-named c = λ place is. absurd (memory-named c.from_residual-in_err-push.result place c.from_residual-in_err-push.ensures.1 is)
+
+pub returns-in_default-clause-bad : goal.returns-in_default-clause-bad
+returns-in_default-clause-bad c = λ place is.
+    let p = no_record c.args.survey.now c.args.given.now c.args.usable.now in
+    let lines = c.loop-step.lines.items in
+    let one = c.step-item.result in
+    let none : None ≡ line_by p lines one = sym c.in_default.is ∙ c.in_ok-line.ensures p refl refl
+    ∙ ap (λ (ls : List LineParts). line_by p ls one) c.deref.ensures.value in
+    let at : c.len.result ≡ place = named-place _ c.len.result place refl is in
+    let many : length lines ≡ place = omega (arith, c.loop-step.lines.ok.0, c.len.ensures, at) in
+    line-missing p c.args.steps.now lines c.loop-step.step-index _ c.loop-step.invariant.0 one c.loop-step-test.true c.step-item.is none
+    ∙ ap (λ (n : ℕ). Err n) many
