@@ -1,4 +1,4 @@
-use Rattle.std.proofs.Common.{◌≡◌, ℕ, ◌+◌, ◌<◌, ℤ, pos, ◌*ℤ◌, List, Option, Some, Result, Ok, drop, get_or, length, sym, ap, ◌∙◌}
+use Rattle.std.proofs.Common.{◌≡◌, ℕ, ◌+◌, ◌<◌, ℤ, pos, ◌*ℤ◌, List, Option, None, Some, Result, Ok, Err, drop, get_or, length, sym, ap, ◌∙◌}
 use Rattle.std.proofs.lemmas.List.{at_drop_more}
 use Rattle.foundation.specs.Options.{◌>>?◌}
 use Rattle.fraction128.proofs.CommonDenominator.{whole_is}
@@ -20,6 +20,13 @@ pub with_number : {E F : Type 0} (sum x y : Fraction) (k given : ℤ) (v : Value
 with_number sum x y k given v first second is same product was total =
     let scale_is : scaled (ratio_of x) k ≡ Some (ratio_of y) = ap (λ (n : ℤ). scaled (ratio_of x) n) (sym same) ∙ sym product ∙ ap answered was in
     rw is (total ∙ ap (λ (o : Option Ratio). (o >>? (λ z. added (ratio_of sum) z))) (sym scale_is))
+
+-- none, where the product leaves the range
+pub with_overflow : {E F : Type 0} (sum x : Fraction) (k given : ℤ) (v : Value) (first : Result Fraction E) (last : Result Fraction F) (e : E) (f : F)
+    → v ≡ Number x → given ≡ k → answered first ≡ scaled (ratio_of x) given → first ≡ Err e → last ≡ Err f → answered last ≡ sum_with (ratio_of sum) k v
+with_overflow sum x k given v first last e f is same product was out =
+    let scale_is : scaled (ratio_of x) k ≡ None = ap (λ (n : ℤ). scaled (ratio_of x) n) (sym same) ∙ sym product ∙ ap answered was in
+    rw is (ap answered out ∙ ap (λ (o : Option Ratio). (o >>? (λ z. added (ratio_of sum) z))) (sym scale_is))
 
 -- a whole number over 1
 pub over_one : (x : Fraction) (n given : ℤ) → given ≡ n → x.numerator *ℤ pos 1 ≡ given *ℤ x.denominator → ratio_of x
