@@ -1,10 +1,11 @@
 use Rattle.std.proofs.Common.{◌≡◌, ◌≢◌, ℕ, zero, suc, ◌<◌, ◌^◌, ℤ, ◌<ℤ◌, lit<, if◌then◌else◌, pos, negsuc, List, ◌∷◌, ◌++◌, length, get_or, Some, refl, sym, ap}
-use Rattle.std.proofs.Common.{◌∙◌, subst, arith}
+use Rattle.std.proofs.Common.{◌∙◌, Bool, true, false, subst, arith}
 use Rattle.std.specs.Prelude.{Result, Ok, Err, OkIff, None}
 use Rattle.std.specs.Fmt.{decimal, signed_decimal}
 use Rattle.std.specs.Str.{IsAscii}
 use Rattle.std.specs.Str.Parse.{AllDigits, digits_value, ParsesSigned}
-use Rattle.std.specs.Ordering.{int_cmp, is_eq}
+use Rattle.std.specs.Ordering.{int_cmp, int_eq, is_eq}
+use Rattle.std.proofs.lemmas.Bool.Decides.{Decides-int_eq}
 use Rattle.std.specs.declared.cmp.Ordering.{Ordering}
 use Rattle.std.proofs.lemmas.Fmt.{decimal_is_IsNumeral_wide, IsAscii-decimal_wide}
 use Rattle.std.proofs.lemmas.Str.{IsAscii-append}
@@ -122,3 +123,16 @@ spelling-whole x one = by_denominator x (spelling x) refl (λ _ is. sym is) (λ 
 
 pub spelling-parts : (x : Fraction) → x.denominator ≢ pos 1 → spelling x ≡ signed_decimal x.numerator ++ (47 ∷ signed_decimal x.denominator)
 spelling-parts x more = by_denominator x (spelling x) refl (λ one is. absurd (more one)) (λ _ is. sym is)
+
+-- the spelling of a whole number, and that of another fraction
+pub spelled-whole : (x : Fraction) → x.denominator ≡ pos 1 → signed_decimal x.numerator ≡ spelling x
+spelled-whole x whole = sym (ap (λ b. if b then signed_decimal x.numerator else signed_decimal x.numerator ++ 47 ∷ signed_decimal x.denominator)
+    ((Decides-int_eq x.denominator (pos 1)).1 whole))
+
+pub spelled-quotient : (x : Fraction) → x.denominator ≢ pos 1 → signed_decimal x.numerator ++ 47 ∷ signed_decimal x.denominator ≡ spelling x
+spelled-quotient x broken = by (int_eq x.denominator (pos 1)) refl
+  where
+    by : (b : Bool) → int_eq x.denominator (pos 1) ≡ b → signed_decimal x.numerator ++ 47 ∷ signed_decimal x.denominator
+        ≡ (if b then signed_decimal x.numerator else signed_decimal x.numerator ++ 47 ∷ signed_decimal x.denominator)
+    by true is = absurd (broken ((Decides-int_eq x.denominator (pos 1)).0 is))
+    by false is = refl

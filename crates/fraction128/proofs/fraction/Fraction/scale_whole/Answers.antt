@@ -1,6 +1,4 @@
-use Rattle.std.proofs.Common.{FitsSigned, rules}
 use Rattle.std.proofs.lemmas.Int.{to_z-of_z}
-use mir.Syntax.{w128}
 use Rattle.fraction128.proofs.RangeLaws.{FitsSigned-in_range, OnErr-always}
 use Rattle.fraction128.proofs.WholeLaws.{whole_product-fits, whole_product-overflows}
 use Rattle.fraction128.proofs.fraction.Fraction.scale_whole.Goals as goal
