@@ -15,6 +15,7 @@ pub mod SheetRead
 pub mod StreamLaws
 pub mod TableLaws
 pub mod TableRead
+pub mod TextsLaws
 pub mod TrimLaws
 pub mod ValueLaws
 pub mod ValueOnce

@@ -1,17 +1,7 @@
-use Rattle.std.proofs.Common.{Bor, ◌≡◌, ◌∙◌, sym, ap, ℕ, zero, suc, ◌+◌, ◌<◌, ◌≤◌, List, [], ◌∷◌, ◌++◌, length, take, get_or, Option, Some, None, refl, arith}
-use Rattle.std.specs.Prelude.{IsSome, option_map}
+use Rattle.std.proofs.Common.{◌≡◌, ◌∙◌, sym, ap, ℕ, zero, suc, ◌+◌, ◌<◌, ◌≤◌, List, [], ◌∷◌, ◌++◌, length, take, get_or, Some, None, arith}
 use Rattle.std.proofs.lemmas.List.{take_all, take_more}
 use Rattle.csv.specs.Records.{field_at}
-use Rattle.csv.proofs.RecordFacts.{field-get, field-there}
-
--- what a record gives at a place is the text there
-pub text_there : (r : Option (Bor (List ℕ))) (texts : List (List ℕ)) (i : ℕ) → option_map (λ s. s.now) r ≡ field_at texts i → i < length texts → IsSome r
-text_there None texts i e lt = absurd (field-there texts i lt (sym e))
-text_there (Some s) texts i e lt = refl
-
-pub text_is : (s : Bor (List ℕ)) (r : Option (Bor (List ℕ))) (texts : List (List ℕ)) (i : ℕ) → option_map (λ s. s.now) r ≡ field_at texts i → r ≡ Some s
-    → s.now ≡ get_or texts i []
-text_is s r texts i e is = sym (field-get texts i s.now (sym e ∙ ap (option_map (λ (t : Bor (List ℕ)). t.now)) is))
+use Rattle.csv.proofs.RecordFacts.{field-get}
 
 -- a place where there is a text, and one where there is none
 pub field_within : (texts : List (List ℕ)) (i : ℕ) (x : List ℕ) → Some x ≡ field_at texts i → i < length texts

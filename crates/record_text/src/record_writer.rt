@@ -56,17 +56,8 @@ impl RecordWriter {
         ensures written { OnOk result (self.new ≡ self.old ++ records_text (texts.now ∷ [])) }
         ensures refused { OnErr result (self.new ≡ self.old) }
     {
-        self.renew_writer();
-        let begin = self.writer.get_ref().len();
-        if self.writer.write_byte_record(texts.as_record()).is_err()
-            || self.writer.flush().is_err()
-        {
-            self.writer = csv_writer(self.alloc);
-            return Err(OutOfMemory);
-        }
-        self.text
-            .extend_from_slice(&self.writer.get_ref()[begin..])?;
-        Ok(())
+        let slices = texts.slices(self.alloc)?;
+        self.push_slices(&slices)
     }
 
     /// Writes a record of these texts behind those that were written, as `push` does. They need not be

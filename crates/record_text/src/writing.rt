@@ -18,7 +18,8 @@ pub fn write_rows(alloc: Global, rows: &[Texts]) -> Result<Vec<u8>, OutOfMemory>
 {
     let mut writer = WriterBuilder::new().from_writer(Vec::new(alloc));
     for texts in rows {
-        if writer.write_byte_record(texts.as_record()).is_err() {
+        let slices = texts.slices(alloc)?;
+        if writer.write_fields(&slices).is_err() {
             return Err(OutOfMemory);
         }
     }

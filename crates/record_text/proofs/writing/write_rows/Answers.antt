@@ -15,16 +15,16 @@ loop-texts-init c =
 pub loop-texts-preserved : goal.loop-texts-preserved
 loop-texts-preserved c =
     let inv = c.loop-texts.invariant in
-    let written = c.write_byte_record.ensures in
+    let written = c.write_fields.ensures in
     let good = sym c.is_err.ensures.value ∙ c.if-is_err.false in
     let plain : (writer_setup c.loop-texts.writer).style ≢ style.NonNumeric = rw inv.0 (λ e. cc e) in
     let before : c.loop-texts.writer.wtr.inner.items ++ c.loop-texts.writer.wtr.buf ≡ records_text (take c.loop-texts.texts-index c.args.rows.now) = cc inv.3 in
-    let bytes = rw (before, inv.0, c.as_record.ensures) at (on-ok c.write_byte_record.result good written.bytes inv.1 inv.2 plain) in
+    let bytes = rw (before, inv.0, c.deref.ensures.value, c.in_ok-slices.ensures) at (on-ok c.write_fields.result good written.bytes inv.1 inv.2 plain) in
     let more = records_text_more c.args.rows.now c.loop-texts.texts-index c.texts-item.result c.loop-texts-test.true c.texts-item.is in (
-      on-ok c.write_byte_record.result good written.setup
+      on-ok c.write_fields.result good written.setup
           ∙ inv.0,
-      on-ok c.write_byte_record.result good written.ended,
-      on-ok c.write_byte_record.result good written.clean,
+      on-ok c.write_fields.result good written.ended,
+      on-ok c.write_fields.result good written.clean,
       rw add-one (ap (λ (bs : List ℕ). Some bs) (bytes ∙ more)),
     )
 

@@ -5,18 +5,16 @@ use Rattle.record_text.proofs.texts.Texts.of_header.Goals as goal
 pub loop-text-init : goal.loop-text-init
 loop-text-init c =
     let start = c.into_iter-text-iterator.ensures.into_iter_gives in
-    (start.0, rw start.1 c.new-copy.ensures.fields, c.new-copy.ensures.partial)
+    (start.0, rw start.1 c.new-copy.ensures)
 
 pub loop-text-preserved : goal.loop-text-preserved
 loop-text-preserved c =
     let inv = c.loop-text.invariant in
     let step = rw inv.0 at c.in-Some.ensures.steps in
-    let added = rw inv.2 at c.in_ok-push_field.ensures.fields in
     let shown = rw c.is_empty.ensures at c.header_text.ensures in (
       ap (λ (row : _). row.now) step.0,
-      added ∙ header_more _ _ c.in-Some.text.now c.header_text.result.now c.loop-text.text-iterator.at c.next.new.self.at inv.1
+      c.in_ok-push.ensures.added ∙ header_more _ _ c.in-Some.text.now c.header_text.result.now c.loop-text.text-iterator.at c.next.new.self.at inv.1
           step.1 shown step.2,
-      c.in_ok-push_field.ensures.partial,
     )
 
 pub returns : goal.returns

@@ -1,8 +1,7 @@
-use Rattle.std.proofs.Common.{◌≡◌, [], take}
-use Rattle.csv.specs.Records.{fields_of, partial_of}
+use Rattle.std.proofs.Common.{◌≡◌, take}
+use Rattle.csv.specs.Records.{fields_of}
 use Rattle.record_text.specs.Trimming.{header_of}
 use Rattle.record_text.proofs.texts.Texts.of_header.Given as goal
 
 abbrev pub invariant-loop-text : goal.invariant-loop-text
-invariant-loop-text l = (l.text-iterator.row.now ≡ l.csv_record) × (fields_of l.copy ≡ header_of (take l.text-iterator.at (fields_of l.csv_record)))
-    × (partial_of l.copy ≡ [])
+invariant-loop-text l = (l.text-iterator.row.now ≡ l.csv_record) × (l.copy ≡ header_of (take l.text-iterator.at (fields_of l.csv_record)))

@@ -5,16 +5,14 @@ use Rattle.record_text.proofs.texts.Texts.of_record.Goals as goal
 pub loop-text-init : goal.loop-text-init
 loop-text-init c =
     let start = c.into_iter-text-iterator.ensures.into_iter_gives in
-    (start.0, rw start.1 c.in_ok-copy.ensures.fields, c.in_ok-copy.ensures.partial)
+    (start.0, rw start.1 c.in_ok-copy.ensures)
 
 pub loop-text-preserved : goal.loop-text-preserved
 loop-text-preserved c =
     let inv = c.loop-text.invariant in
-    let step = rw inv.0 at c.in-Some.ensures.steps in
-    let added = rw inv.2 at c.in_ok-push_field.ensures.fields in (
+    let step = rw inv.0 at c.in-Some.ensures.steps in (
       ap (λ (row : _). row.now) step.0,
-      added ∙ copied_more _ _ c.in-Some.text.now c.loop-text.text-iterator.at c.next.new.self.at inv.1 step.1 step.2,
-      c.in_ok-push_field.ensures.partial,
+      c.in_ok-push.ensures.added ∙ copied_more _ _ c.in-Some.text.now c.loop-text.text-iterator.at c.next.new.self.at inv.1 step.1 step.2,
     )
 
 pub returns : goal.returns
