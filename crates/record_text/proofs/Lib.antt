@@ -8,6 +8,7 @@ pub mod HeaderLaws
 pub mod NumeralLaws
 pub mod PlainLaws
 pub mod RecordLaws
+pub mod Refusals
 pub mod RowsRead
 pub mod RowsTold
 pub mod SheetLaws

@@ -2,29 +2,20 @@
 ghost use Rattle.std.specs.Prelude.{◌≡◌, IfOk};
 ghost use Rattle.record_text.specs.Texts.{AreEquallyLong, records_text};
 
+use crate::record_writer::RecordWriter;
 use crate::texts::Texts;
-use csv::WriterBuilder;
 use foundation::OutOfMemory;
 use std::alloc::Global;
 
 /// The records as csv's default writer writes them, each ended by a line feed. They are equally long, and
-/// have at least one field each.
-///
-/// Writing into memory gives no output error, and equally long records give no error of length. So csv
-/// refuses for want of memory alone. Without records the answer has no byte.
+/// have at least one field each. Without records the answer has no byte.
 pub fn write_rows(alloc: Global, rows: &[Texts]) -> Result<Vec<u8>, OutOfMemory>
     requires { AreEquallyLong rows.now }
     ensures { IfOk result (λ bytes. bytes.items ≡ records_text rows.now) }
 {
-    let mut writer = WriterBuilder::new().from_writer(Vec::new(alloc));
+    let mut writer = RecordWriter::new(alloc);
     for texts in rows {
-        let slices = texts.slices(alloc)?;
-        if writer.write_fields(&slices).is_err() {
-            return Err(OutOfMemory);
-        }
+        writer.push(texts)?;
     }
-    match writer.into_inner() {
-        Ok(bytes) => Ok(bytes),
-        Err(_) => Err(OutOfMemory),
-    }
+    Ok(writer.into_bytes())
 }

@@ -1,5 +1,6 @@
 use Rattle.std.proofs.Common.{◌∙◌, add-one}
 use Rattle.record_text.proofs.ColumnLaws.{field_passed, stand_more}
+use Rattle.record_text.proofs.Refusals.{no_other_fault, no_value}
 use Rattle.record_text.proofs.columns.find_columns.Goals as goal
 
 pub loop-number-preserved : goal.loop-number-preserved
@@ -13,3 +14,18 @@ loop-number-preserved c =
     in
     let passed = field_passed fields header i i f.result c.in_ok-column.column c.loop-number-test.true f.is one in
     (rw (add-one, c.in_ok-push.ensures.items) stand, rw add-one (c.loop-number.invariant.1 ∙ passed))
+
+pub returns-in_err-columns-clause-columns : goal.returns-in_err-columns-clause-columns
+returns-in_err-columns-clause-columns c = no_value c.from_residual.result _ _ c.from_residual.ensures.1
+
+pub returns-in_err-column-clause-columns : goal.returns-in_err-column-clause-columns
+returns-in_err-column-clause-columns c = no_value c.from_residual-in_err-column.result _ _ c.from_residual-in_err-column.ensures.1
+
+pub returns-in_err-push-clause-columns : goal.returns-in_err-push-clause-columns
+returns-in_err-push-clause-columns c = no_value c.from_residual-in_err-push.result _ _ c.from_residual-in_err-push.ensures.1
+
+pub returns-in_err-columns-clause-fault : goal.returns-in_err-columns-clause-fault
+returns-in_err-columns-clause-fault c = no_other_fault c.from_residual.result _ _ c.from_residual.ensures.1
+
+pub returns-in_err-push-clause-fault : goal.returns-in_err-push-clause-fault
+returns-in_err-push-clause-fault c = no_other_fault c.from_residual-in_err-push.result _ _ c.from_residual-in_err-push.ensures.1

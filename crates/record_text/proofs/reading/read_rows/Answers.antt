@@ -4,6 +4,7 @@ use Rattle.std.proofs.lemmas.Result.{err_from_is_err_and}
 use Rattle.record_text.proofs.FaultLaws.{faultless_equally_long, faultless_few}
 use Rattle.record_text.proofs.RowsTold.{fault_behind, rows_behind}
 use Rattle.record_text.proofs.ValueLaws.{rows_length}
+use Rattle.record_text.proofs.Refusals.{no_other_fault, no_value}
 use Rattle.record_text.proofs.reading.read_rows.Goals as goal
 
 pub returns-in_err-row_texts-clause-fault : goal.returns-in_err-row_texts-clause-fault
@@ -33,3 +34,24 @@ returns-clause-few c =
     (rw c.deref.ensures.value at c.in_ok-rows.ensures) in
     let few = faultless_few 200000 c.args.width 0 c.in_ok-row_texts.row_texts.items (omega arith) c.in_ok-row_texts.ensures.faultless in
     omega arith
+
+pub returns-in_err-row_texts-clause-rows : goal.returns-in_err-row_texts-clause-rows
+returns-in_err-row_texts-clause-rows c = no_value c.from_residual.result _ _ c.from_residual.ensures.1
+
+pub returns-in_err-row_texts-clause-equal : goal.returns-in_err-row_texts-clause-equal
+returns-in_err-row_texts-clause-equal c = no_value c.from_residual.result _ _ c.from_residual.ensures.1
+
+pub returns-in_err-row_texts-clause-few : goal.returns-in_err-row_texts-clause-few
+returns-in_err-row_texts-clause-few c = no_value c.from_residual.result _ _ c.from_residual.ensures.1
+
+pub returns-in_err-rows-clause-rows : goal.returns-in_err-rows-clause-rows
+returns-in_err-rows-clause-rows c = no_value c.from_residual-in_err-rows.result _ _ c.from_residual-in_err-rows.ensures.1
+
+pub returns-in_err-rows-clause-equal : goal.returns-in_err-rows-clause-equal
+returns-in_err-rows-clause-equal c = no_value c.from_residual-in_err-rows.result _ _ c.from_residual-in_err-rows.ensures.1
+
+pub returns-in_err-rows-clause-few : goal.returns-in_err-rows-clause-few
+returns-in_err-rows-clause-few c = no_value c.from_residual-in_err-rows.result _ _ c.from_residual-in_err-rows.ensures.1
+
+pub returns-in_err-rows-clause-fault : goal.returns-in_err-rows-clause-fault
+returns-in_err-rows-clause-fault c = no_other_fault c.from_residual-in_err-rows.result _ _ c.from_residual-in_err-rows.ensures.1

@@ -6,6 +6,7 @@ use Rattle.record_text.proofs.ColumnLaws.{columns_within, one_column_each}
 use Rattle.record_text.proofs.HeaderLaws.{header_length}
 use Rattle.record_text.specs.inner.Places.{start_of}
 use Rattle.record_text.proofs.SheetRead.{faulty_columns, faulty_rows, no_header, sheet_read, too_many_columns}
+use Rattle.record_text.proofs.Refusals.{no_other_fault, no_value}
 use Rattle.record_text.proofs.reading.sheet_of.Goals as goal
 
 pub returns-then-not-branch-clause-fault : goal.returns-then-not-branch-clause-fault
@@ -66,3 +67,21 @@ returns-clause-sheet c = λ bytes at.
     let rows = rw (width, c.deref.ensures.value) at (c.in_ok-row_texts.ensures.rows there standing) in
     rw c.from_parts.ensures (sheet_read c.args.survey.now.fields bytes texts there begins _
     (grind (arith, nat_tests)) c.in_ok-header.ensures stand rows)
+
+pub returns-in_err-read_next-clause-sheet : goal.returns-in_err-read_next-clause-sheet
+returns-in_err-read_next-clause-sheet c = no_value c.from_residual.result _ _ c.from_residual.ensures.1
+
+pub returns-in_err-header-clause-sheet : goal.returns-in_err-header-clause-sheet
+returns-in_err-header-clause-sheet c = no_value c.from_residual-in_err-header.result _ _ c.from_residual-in_err-header.ensures.1
+
+pub returns-in_err-columns-clause-sheet : goal.returns-in_err-columns-clause-sheet
+returns-in_err-columns-clause-sheet c = no_value c.from_residual-in_err-columns.result _ _ c.from_residual-in_err-columns.ensures.1
+
+pub returns-in_err-row_texts-clause-sheet : goal.returns-in_err-row_texts-clause-sheet
+returns-in_err-row_texts-clause-sheet c = no_value c.from_residual-in_err-row_texts.result _ _ c.from_residual-in_err-row_texts.ensures.1
+
+pub returns-in_err-read_next-clause-fault : goal.returns-in_err-read_next-clause-fault
+returns-in_err-read_next-clause-fault c = no_other_fault c.from_residual.result _ _ c.from_residual.ensures.1
+
+pub returns-in_err-header-clause-fault : goal.returns-in_err-header-clause-fault
+returns-in_err-header-clause-fault c = no_other_fault c.from_residual-in_err-header.result _ _ c.from_residual-in_err-header.ensures.1

@@ -1,5 +1,6 @@
 use Rattle.std.proofs.Common.{◌∷◌, [], refl, arith, length-append}
 use Rattle.csv.specs.Records.{fields_of}
+use Rattle.record_text.proofs.Refusals.{no_other_fault, no_value}
 use Rattle.record_text.proofs.RowsRead.{faulty_row, read_all, read_more, read_none, row_too_many}
 use Rattle.record_text.proofs.row_texts.read_row_texts.Goals as goal
 
@@ -48,3 +49,39 @@ returns-clause-records c =
 
 pub returns-clause-faultless : goal.returns-clause-faultless
 returns-clause-faultless c = c.loop-row_no.invariant.0.faultless
+
+pub returns-in_err-read_next-clause-records : goal.returns-in_err-read_next-clause-records
+returns-in_err-read_next-clause-records c = no_value c.from_residual.result _ _ c.from_residual.ensures.1
+
+pub returns-in_err-read_next-clause-faultless : goal.returns-in_err-read_next-clause-faultless
+returns-in_err-read_next-clause-faultless c = no_value c.from_residual.result _ _ c.from_residual.ensures.1
+
+pub returns-in_err-read_next-clause-fault : goal.returns-in_err-read_next-clause-fault
+returns-in_err-read_next-clause-fault c = no_other_fault c.from_residual.result _ _ c.from_residual.ensures.1
+
+pub returns-in_err-texts-clause-records : goal.returns-in_err-texts-clause-records
+returns-in_err-texts-clause-records c = no_value c.from_residual-in_err-texts.result _ _ c.from_residual-in_err-texts.ensures.1
+
+pub returns-in_err-texts-clause-faultless : goal.returns-in_err-texts-clause-faultless
+returns-in_err-texts-clause-faultless c = no_value c.from_residual-in_err-texts.result _ _ c.from_residual-in_err-texts.ensures.1
+
+pub returns-in_err-texts-clause-fault : goal.returns-in_err-texts-clause-fault
+returns-in_err-texts-clause-fault c = no_other_fault c.from_residual-in_err-texts.result _ _ c.from_residual-in_err-texts.ensures.1
+
+pub returns-in_err-push-clause-records : goal.returns-in_err-push-clause-records
+returns-in_err-push-clause-records c = no_value c.from_residual-in_err-push.result _ _ c.from_residual-in_err-push.ensures.1
+
+pub returns-in_err-push-clause-faultless : goal.returns-in_err-push-clause-faultless
+returns-in_err-push-clause-faultless c = no_value c.from_residual-in_err-push.result _ _ c.from_residual-in_err-push.ensures.1
+
+pub returns-in_err-push-clause-fault : goal.returns-in_err-push-clause-fault
+returns-in_err-push-clause-fault c = no_other_fault c.from_residual-in_err-push.result _ _ c.from_residual-in_err-push.ensures.1
+
+pub returns-in_err-read_next-2-clause-records : goal.returns-in_err-read_next-2-clause-records
+returns-in_err-read_next-2-clause-records c = no_value c.from_residual-in_err-read_next-2.result _ _ c.from_residual-in_err-read_next-2.ensures.1
+
+pub returns-in_err-read_next-2-clause-faultless : goal.returns-in_err-read_next-2-clause-faultless
+returns-in_err-read_next-2-clause-faultless c = no_value c.from_residual-in_err-read_next-2.result _ _ c.from_residual-in_err-read_next-2.ensures.1
+
+pub returns-in_err-read_next-2-clause-fault : goal.returns-in_err-read_next-2-clause-fault
+returns-in_err-read_next-2-clause-fault c = no_other_fault c.from_residual-in_err-read_next-2.result _ _ c.from_residual-in_err-read_next-2.ensures.1

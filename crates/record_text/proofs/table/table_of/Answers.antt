@@ -6,6 +6,7 @@ use Rattle.record_text.proofs.FaultLaws.{faultless_few}
 use Rattle.record_text.specs.inner.Places.{start_of}
 use Rattle.record_text.proofs.HeaderLaws.{header_length}
 use Rattle.record_text.proofs.TableRead.{faulty_texts, no_table, table_read}
+use Rattle.record_text.proofs.Refusals.{no_other_fault, no_value}
 use Rattle.record_text.proofs.table.table_of.Goals as goal
 
 pub returns-then-not-branch-clause-fault : goal.returns-then-not-branch-clause-fault
@@ -37,3 +38,18 @@ returns-clause-table c = λ bytes at.
     let width = c.len.ensures ∙ ap (λ (ts : List (List ℕ)). length ts) c.in_ok-header.ensures ∙ header_length texts in
     table_read bytes texts there begins _ c.in_ok-header.ensures (c.in_ok-rows.ensures.records there standing)
     (rw width at c.in_ok-rows.ensures.faultless)
+
+pub returns-in_err-read_next-clause-table : goal.returns-in_err-read_next-clause-table
+returns-in_err-read_next-clause-table c = no_value c.from_residual.result _ _ c.from_residual.ensures.1
+
+pub returns-in_err-header-clause-table : goal.returns-in_err-header-clause-table
+returns-in_err-header-clause-table c = no_value c.from_residual-in_err-header.result _ _ c.from_residual-in_err-header.ensures.1
+
+pub returns-in_err-rows-clause-table : goal.returns-in_err-rows-clause-table
+returns-in_err-rows-clause-table c = no_value c.from_residual-in_err-rows.result _ _ c.from_residual-in_err-rows.ensures.1
+
+pub returns-in_err-read_next-clause-fault : goal.returns-in_err-read_next-clause-fault
+returns-in_err-read_next-clause-fault c = no_other_fault c.from_residual.result _ _ c.from_residual.ensures.1
+
+pub returns-in_err-header-clause-fault : goal.returns-in_err-header-clause-fault
+returns-in_err-header-clause-fault c = no_other_fault c.from_residual-in_err-header.result _ _ c.from_residual-in_err-header.ensures.1

@@ -1,5 +1,6 @@
 use Rattle.std.proofs.Common.{◌∙◌, ap}
 use Rattle.record_text.proofs.HeaderLaws.{header_all, header_more}
+use Rattle.record_text.proofs.Refusals.{no_value}
 use Rattle.record_text.proofs.texts.Texts.of_header.Goals as goal
 
 pub loop-text-init : goal.loop-text-init
@@ -21,3 +22,6 @@ pub returns : goal.returns
 returns c =
     let inv = c.loop-text.invariant in
     header_all _ _ c.loop-text.text-iterator.at inv.1 (rw inv.0 at c.in-None.ensures.steps.1)
+
+pub returns-in_err-push : goal.returns-in_err-push
+returns-in_err-push c = no_value c.from_residual.result _ _ c.from_residual.ensures.1

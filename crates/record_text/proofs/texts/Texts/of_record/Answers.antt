@@ -1,5 +1,6 @@
 use Rattle.std.proofs.Common.{◌∙◌, ap}
 use Rattle.record_text.proofs.RecordLaws.{copied_all, copied_more}
+use Rattle.record_text.proofs.Refusals.{no_value}
 use Rattle.record_text.proofs.texts.Texts.of_record.Goals as goal
 
 pub loop-text-init : goal.loop-text-init
@@ -19,3 +20,9 @@ pub returns : goal.returns
 returns c =
     let inv = c.loop-text.invariant in
     copied_all _ _ c.loop-text.text-iterator.at inv.1 (rw inv.0 at c.in-None.ensures.steps.1)
+
+pub returns-in_err-copy : goal.returns-in_err-copy
+returns-in_err-copy c = no_value c.from_residual.result _ _ c.from_residual.ensures.1
+
+pub returns-in_err-push : goal.returns-in_err-push
+returns-in_err-push c = no_value c.from_residual-in_err-push.result _ _ c.from_residual-in_err-push.ensures.1
