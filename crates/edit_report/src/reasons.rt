@@ -65,18 +65,36 @@ pub fn reasons_text(
     requires ends { AreEnds survey.now sheet.now ends.now }
     ensures { IfOk result (λ text. text.items ≡ reasons_text_of survey.now sheet.now ends.now) }
 {
-    let layout = Layout::of_sheet(alloc, sheet)?;
     let mut writer = RecordWriter::new(alloc);
-    push_reasons_header(&mut writer)?;
+    push_file(alloc, &mut writer, sheet, survey, ends)?;
+    Ok(writer.into_bytes())
+}
+
+// Writes the reasons file, of which nothing is written yet: its header, and then the lines of each record.
+// The writer stays the caller's, so that no way out of here drops it.
+fn push_file(
+    alloc: Global,
+    writer: &mut RecordWriter,
+    sheet: &Sheet,
+    survey: &Survey,
+    ends: &[RowEnd],
+) -> Result<(), OutOfMemory>
+    requires empty { writer.old ≡ [] }
+    requires sheet { (bytes : List ℕ) × IsSheet survey.now.fields bytes sheet.now }
+    requires ends { AreEnds survey.now sheet.now ends.now }
+    ensures { OnOk result (writer.new ≡ reasons_text_of survey.now sheet.now ends.now) }
+{
+    let layout = Layout::of_sheet(alloc, sheet)?;
+    push_reasons_header(writer)?;
     for row_no in 0..sheet.len() {
         let row = Record {
             number: row_no,
             read: sheet.raw(row_no),
             end: &ends[row_no as usize],
         };
-        push_reasons(alloc, &mut writer, survey, &layout, &row)?;
+        push_reasons(alloc, writer, survey, &layout, &row)?;
     }
-    Ok(writer.into_bytes())
+    Ok(())
 }
 
 /// Writes the header of the reasons file, the names of its seven columns.

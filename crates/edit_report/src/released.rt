@@ -40,14 +40,32 @@ pub fn released_text(
     requires ends { AreEnds survey.now sheet.now ends.now }
     ensures { IfOk result (λ text. text.items ≡ released_text_of survey.now sheet.now ends.now) }
 {
-    let layout = Layout::of_sheet(alloc, sheet)?;
     let mut writer = RecordWriter::new(alloc);
+    push_file(alloc, &mut writer, sheet, survey, ends)?;
+    Ok(writer.into_bytes())
+}
+
+// Writes the released file, of which nothing is written yet: the header, and then the rows of the records
+// that were given values. The writer stays the caller's, so that no way out of here drops it.
+fn push_file(
+    alloc: Global,
+    writer: &mut RecordWriter,
+    sheet: &Sheet,
+    survey: &Survey,
+    ends: &[RowEnd],
+) -> Result<(), OutOfMemory>
+    requires empty { writer.old ≡ [] }
+    requires sheet { (bytes : List ℕ) × IsSheet survey.now.fields bytes sheet.now }
+    requires ends { AreEnds survey.now sheet.now ends.now }
+    ensures { OnOk result (writer.new ≡ released_text_of survey.now sheet.now ends.now) }
+{
+    let layout = Layout::of_sheet(alloc, sheet)?;
     writer.push(sheet.header())?;
     for row_no in 0..sheet.len() {
         let end = &ends[row_no as usize];
-        push_released(alloc, &mut writer, survey, &layout, sheet.raw(row_no), end)?;
+        push_released(alloc, writer, survey, &layout, sheet.raw(row_no), end)?;
     }
-    Ok(writer.into_bytes())
+    Ok(())
 }
 
 /// Writes the row of a record that was given values; nothing for one that was not. `read` has the texts of

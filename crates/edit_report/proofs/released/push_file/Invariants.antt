@@ -1,7 +1,7 @@
 use Rattle.std.proofs.Common.{◌≡◌, ◌++◌, drop}
 use Rattle.record_text.specs.Texts.{records_text}
 use Rattle.edit_report.specs.Released.{released_rows, released_text_of}
-use Rattle.edit_report.proofs.released.released_text.Given as goal
+use Rattle.edit_report.proofs.released.push_file.Given as goal
 
 abbrev pub invariant-loop-row_no : goal.invariant-loop-row_no
 invariant-loop-row_no l =

@@ -3,11 +3,11 @@ use Rattle.record_text.proofs.WritingLaws.{records_text-append}
 use Rattle.edit_report.specs.Released.{released_rows}
 use Rattle.edit_report.proofs.SheetLaws.{raw-long, sheet-layout}
 use Rattle.edit_report.proofs.WrittenLaws.{released-all, released-more}
-use Rattle.edit_report.proofs.released.released_text.Goals as goal
+use Rattle.edit_report.proofs.released.push_file.Goals as goal
 
 pub loop-row_no-init : goal.loop-row_no-init
 loop-row_no-init c =
-    rw (c.in_ok-push.ensures.written, c.new-writer.ensures, c.header.ensures)
+    rw (c.in_ok-push.ensures.written, c.requires.empty, c.header.ensures)
     (sym (records_text-append (c.args.sheet.now.header ∷ []) (released_rows c.args.survey.now.fields c.args.sheet.now.columns c.args.sheet.now.row_texts
     c.args.ends.now)))
 
@@ -36,6 +36,5 @@ loop-row_no-preserved c =
 
 pub returns : goal.returns
 returns c =
-    c.into_bytes.ensures
-    ∙ released-all c.args.survey.now.fields c.args.sheet.now.columns c.args.sheet.now.row_texts c.args.ends.now c.loop-row_no.row_no c.loop-row_no.writer _
+    released-all c.args.survey.now.fields c.args.sheet.now.columns c.args.sheet.now.row_texts c.args.ends.now c.loop-row_no.row_no c.loop-row_no.writer _
     (omega (arith, c.loop-row_no-test.false, c.len-row_no-end.ensures.rows, c.requires.ends.one_each)) c.loop-row_no.invariant

@@ -3,11 +3,11 @@ use Rattle.record_text.proofs.WritingLaws.{records_text-append}
 use Rattle.edit_report.specs.Reasons.{reasons_from, reasons_header}
 use Rattle.edit_report.proofs.SheetLaws.{raw-long, sheet-layout}
 use Rattle.edit_report.proofs.WrittenLaws.{reasons-all, reasons-more}
-use Rattle.edit_report.proofs.reasons.reasons_text.Goals as goal
+use Rattle.edit_report.proofs.reasons.push_file.Goals as goal
 
 pub loop-row_no-init : goal.loop-row_no-init
 loop-row_no-init c =
-    rw (c.in_ok-push_reasons_header.ensures, c.new-writer.ensures)
+    rw (c.in_ok-push_reasons_header.ensures, c.requires.empty)
     (sym (records_text-append (reasons_header ∷ []) (reasons_from c.args.survey.now.fields c.args.sheet.now.columns 0 c.args.sheet.now.row_texts
     c.args.ends.now)))
 
@@ -35,6 +35,5 @@ loop-row_no-preserved c =
 
 pub returns : goal.returns
 returns c =
-    c.into_bytes.ensures
-    ∙ reasons-all c.args.survey.now.fields c.args.sheet.now.columns c.args.sheet.now.row_texts c.args.ends.now c.loop-row_no.row_no c.loop-row_no.writer _
+    reasons-all c.args.survey.now.fields c.args.sheet.now.columns c.args.sheet.now.row_texts c.args.ends.now c.loop-row_no.row_no c.loop-row_no.writer _
     (omega (arith, c.loop-row_no-test.false, c.len-row_no-end.ensures.rows, c.requires.ends.one_each)) c.loop-row_no.invariant
