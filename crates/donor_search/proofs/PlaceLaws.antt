@@ -1,8 +1,8 @@
 use Rattle.std.proofs.Common.{◌≡◌, ℕ, zero, suc, ◌+◌, ◌<◌, ◌≤◌, Bool, true, false, List, [], ◌∷◌, ◌++◌, All, Some, append-nil, drop, length, slice_get}
-use Rattle.std.proofs.Common.{slice_index_or, refl, sym, ap, ◌∙◌, subst, arith}
+use Rattle.std.proofs.Common.{slice_index_or, add-one, refl, sym, ap, ◌∙◌, subst, arith}
 use Rattle.std.specs.List.{AllPairs}
 use Rattle.std.specs.List.Sorted.{IsStrictlyIncreasing}
-use Rattle.std.proofs.lemmas.List.{at_drop_all}
+use Rattle.std.proofs.lemmas.List.{append_assoc, at_drop_all, drop_more}
 use Rattle.std.proofs.lemmas.List.Elements.{All-append, All-cons, All-nil}
 use Rattle.std.proofs.lemmas.List.Kept.{AllPairs-cons}
 use Rattle.std.proofs.lemmas.Option.{slice_get_within}
@@ -67,3 +67,14 @@ module _ {X : Type 0} (test : X → Bool) where
       → found ≡ places_from test 0 xs
   found-all xs i found past before =
       sym (append-nil found) ∙ ap (λ (ns : List ℕ). found ++ ns) (sym (at_drop_all (places_from test i) xs i past)) ∙ before
+
+  -- one element more is looked at
+  pub found-more : (xs : List X) (i : ℕ) (d : X) (found new before : List ℕ) → i < length xs
+      → new ≡ found ++ place_if (test (slice_index_or xs i d)) i → found ++ places_from test i (drop i xs) ≡ before
+      → new ++ places_from test (suc i) (drop (suc i) xs) ≡ before
+  found-more xs i d found new before there more so_far =
+      let here : place_if (test (slice_index_or xs i d)) i ++ places_from test (suc i) (drop (suc i) xs) ≡ places_from test i (drop i xs) =
+      sym (ap (λ (ys : List X). places_from test i ys) (rw add-one at (drop_more xs i d there))) in
+      ap (λ (ns : List ℕ). ns ++ places_from test (suc i) (drop (suc i) xs)) more
+      ∙ append_assoc found (place_if (test (slice_index_or xs i d)) i) (places_from test (suc i) (drop (suc i) xs))
+      ∙ ap (λ (ns : List ℕ). found ++ ns) here ∙ so_far

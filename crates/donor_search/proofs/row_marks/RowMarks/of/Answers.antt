@@ -10,6 +10,7 @@ use Rattle.donor_search.specs.CleanRows.{row_at}
 use Rattle.donor_search.proofs.CleanLaws.{is_row_at}
 use Rattle.donor_search.proofs.MarkTables.{lists_more, row_put}
 use Rattle.donor_search.proofs.ProfileLaws.{marks_long}
+use Rattle.donor_search.proofs.Refusals.{no_value}
 use Rattle.donor_search.proofs.row_marks.RowMarks.of.Goals as goal
 
 pub push_marks-requires : goal.push_marks-requires
@@ -34,3 +35,6 @@ loop-row_no-preserved c plain =
     (omega (arith, marks_long 0 ys (row_at rows row_no), c.count.ensures.fields, ap (λ (us : List Yardstick). length us) c.of-yardsticks.ensures)) in
     lists_more (marks_of ys) rows row_no [] c.loop-row_no.marks.items c.push_marks.new.marks.items below (c.loop-row_no.invariant plain)
     (put ∙ ap (λ (ms : List ℕ). c.loop-row_no.marks.items ++ ms) whole)
+
+pub returns-in_err-push_marks : goal.returns-in_err-push_marks
+returns-in_err-push_marks c = no_value c.from_residual.result _ _ c.from_residual.ensures.1
