@@ -5,10 +5,12 @@ pub mod AskedLaws
 pub mod BookLaws
 pub mod ClaimedLaws
 pub mod ClassPieces
+pub mod DrawnLaws
 pub mod GatherLaws
 pub mod JoinedLaws
 pub mod KeepLaws
 pub mod LastClass
+pub mod MoveLaws
 pub mod OrderLaws
 pub mod RangeLaws
 pub mod RunLaws

@@ -129,7 +129,7 @@ fn run_each<R: Threads + Wait + Sync, F: Fn(u32, &Value, &Value) -> u64 + Send +
             Ok(worker)
         },
     )?;
-    let mut ran = Vec::with_capacity(alloc, results.len())?;
+    let mut ran = Vec::new(alloc);
     for worker in results {
         ran.push(worker?)?;
     }

@@ -82,7 +82,7 @@ impl Worker {
     }
 
     // Does what there is to do of the record that was drawn last: it is searched, and claims a donor if it
-    // needs one. Room for its piece is taken before the claim, so that no claim stands without its piece.
+    // needs one. Room for its piece is taken before all that, so that no claim stands without its piece.
     // Where memory is refused, nothing is kept of the record.
     fn work_on<R: Wait, F: Fn(u32, &Value, &Value) -> u64, L: Ledger>(
         &mut self,
@@ -101,8 +101,8 @@ impl Worker {
         ensures found { OnOk result (FoundAll self.new) }
         ensures refused { OnErr result (MissesLast self.new) }
     {
-        let piece = find_piece(&mut self.reader, rt, alloc, &shared.rest, row_no, steps)?;
         self.pieces.reserve(1)?;
+        let piece = find_piece(&mut self.reader, rt, alloc, &shared.rest, row_no, steps)?;
         claim_for(shared, &mut self.pass, &piece);
         self.pieces.push_reserved(piece);
         Ok(())

@@ -21,3 +21,30 @@ returns-clause-kept g c =
     (case_of c.args.task.now.survey.now (arc_value c.args.task.now.edits.now) c.args.task.now.row.now) (length c.fields-2.result.now)
     c.in_ok-unchanged_outcome.field-0
     c.in_ok-unchanged_outcome.ensures c.in_ok-ask_for_start.ensures.kept
+
+pub returns-in_err-ask_for_start-clause-serves : goal.returns-in_err-ask_for_start-clause-serves
+returns-in_err-ask_for_start-clause-serves g c = c.ask_for_start.ensures.serves
+
+pub returns-in_err-ask_for_start-clause-keeps : goal.returns-in_err-ask_for_start-clause-keeps
+returns-in_err-ask_for_start-clause-keeps g c = c.ask_for_start.ensures.keeps
+
+pub returns-in_err-ask_for_start-clause-counts : goal.returns-in_err-ask_for_start-clause-counts
+returns-in_err-ask_for_start-clause-counts g c = c.ask_for_start.ensures.counts
+
+pub returns-in_err-unchanged_outcome-clause-serves : goal.returns-in_err-unchanged_outcome-clause-serves
+returns-in_err-unchanged_outcome-clause-serves g c = c.ask_for_start.ensures.serves
+
+pub returns-in_err-unchanged_outcome-clause-keeps : goal.returns-in_err-unchanged_outcome-clause-keeps
+returns-in_err-unchanged_outcome-clause-keeps g c = c.ask_for_start.ensures.keeps
+
+pub returns-in_err-unchanged_outcome-clause-counts : goal.returns-in_err-unchanged_outcome-clause-counts
+returns-in_err-unchanged_outcome-clause-counts g c = c.ask_for_start.ensures.counts
+
+pub returns-clause-serves : goal.returns-clause-serves
+returns-clause-serves g c = c.ask_for_start.ensures.serves
+
+pub returns-clause-keeps : goal.returns-clause-keeps
+returns-clause-keeps g c = c.ask_for_start.ensures.keeps
+
+pub returns-clause-counts : goal.returns-clause-counts
+returns-clause-counts g c = c.ask_for_start.ensures.counts

@@ -205,3 +205,16 @@ returns-clause-keeps g c f h = c.certificate.ensures.keeps f (c.loop-node.invari
 
 pub returns-clause-counts : goal.returns-clause-counts
 returns-clause-counts g c = omega (arith, c.first_end.ensures.counts, c.loop-node.invariant.4, c.certificate.ensures.counts)
+
+pub look_into-requires-clause-served : goal.look_into-requires-clause-served
+look_into-requires-clause-served g c = c.loop-node.invariant.2 _ (c.first_end.ensures.serves _ c.requires.served)
+
+pub end_by-requires-clause-served : goal.end_by-requires-clause-served
+end_by-requires-clause-served g c = c.look_into.ensures.serves _ (c.loop-node.invariant.2 _ (c.first_end.ensures.serves _ c.requires.served))
+
+pub certificate-requires-clause-served : goal.certificate-requires-clause-served
+certificate-requires-clause-served g c = c.loop-node.invariant.2 _ (c.first_end.ensures.serves _ c.requires.served)
+
+pub certificate-requires-clause-taken : goal.certificate-requires-clause-taken
+certificate-requires-clause-taken g c =
+    subst (λ (ts : List Taken). AllByRecursion (IsTaken (case_in c.args.problem.now)) ts) (sym c.deref-2.ensures.value) c.loop-node.invariant.0.taken_are

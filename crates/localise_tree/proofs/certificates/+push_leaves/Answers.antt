@@ -146,3 +146,81 @@ returns-clause-leaves g t c =
     (subst (λ (p : List Bool). HasLists (case_in c.args.tree.now.problem.now) p c.push_lists.new.levels.items) c.deref-2.ensures.value
     c.in_ok-push_lists.ensures.lists)
     c.in_ok-push_closed.ensures
+
+pub returns-in_err-push_lists-clause-serves : goal.returns-in_err-push_lists-clause-serves
+returns-in_err-push_lists-clause-serves g t c = c.push_lists.ensures.serves
+
+pub returns-in_err-push_lists-clause-keeps : goal.returns-in_err-push_lists-clause-keeps
+returns-in_err-push_lists-clause-keeps g t c = c.push_lists.ensures.keeps
+
+pub returns-in_err-push_lists-clause-counts : goal.returns-in_err-push_lists-clause-counts
+returns-in_err-push_lists-clause-counts g t c = c.push_lists.ensures.counts
+
+pub returns-in_err-push-clause-serves : goal.returns-in_err-push-clause-serves
+returns-in_err-push-clause-serves g t c = c.push_lists.ensures.serves
+
+pub returns-in_err-push-clause-keeps : goal.returns-in_err-push-clause-keeps
+returns-in_err-push-clause-keeps g t c = c.push_lists.ensures.keeps
+
+pub returns-in_err-push-clause-counts : goal.returns-in_err-push-clause-counts
+returns-in_err-push-clause-counts g t c = c.push_lists.ensures.counts
+
+pub returns-in_err-push_leaves-clause-serves : goal.returns-in_err-push_leaves-clause-serves
+returns-in_err-push_leaves-clause-serves g t c e h = c.push_leaves.ensures.serves e (c.push_lists.ensures.serves e h)
+
+pub returns-in_err-push_leaves-clause-keeps : goal.returns-in_err-push_leaves-clause-keeps
+returns-in_err-push_leaves-clause-keeps g t c f h = c.push_leaves.ensures.keeps f (c.push_lists.ensures.keeps f h)
+
+pub returns-in_err-push_leaves-clause-counts : goal.returns-in_err-push_leaves-clause-counts
+returns-in_err-push_leaves-clause-counts g t c = omega (arith, c.push_lists.ensures.counts, c.push_leaves.ensures.counts)
+
+pub returns-in_err-push-2-clause-serves : goal.returns-in_err-push-2-clause-serves
+returns-in_err-push-2-clause-serves g t c e h = c.push_leaves.ensures.serves e (c.push_lists.ensures.serves e h)
+
+pub returns-in_err-push-2-clause-keeps : goal.returns-in_err-push-2-clause-keeps
+returns-in_err-push-2-clause-keeps g t c f h = c.push_leaves.ensures.keeps f (c.push_lists.ensures.keeps f h)
+
+pub returns-in_err-push-2-clause-counts : goal.returns-in_err-push-2-clause-counts
+returns-in_err-push-2-clause-counts g t c = omega (arith, c.push_lists.ensures.counts, c.push_leaves.ensures.counts)
+
+pub returns-in_err-push_leaves-2-clause-serves : goal.returns-in_err-push_leaves-2-clause-serves
+returns-in_err-push_leaves-2-clause-serves g t c e h =
+    c.push_leaves-then-len-field_count.ensures.serves e (c.push_leaves.ensures.serves e (c.push_lists.ensures.serves e h))
+
+pub returns-in_err-push_leaves-2-clause-keeps : goal.returns-in_err-push_leaves-2-clause-keeps
+returns-in_err-push_leaves-2-clause-keeps g t c f h =
+    c.push_leaves-then-len-field_count.ensures.keeps f (c.push_leaves.ensures.keeps f (c.push_lists.ensures.keeps f h))
+
+pub returns-in_err-push_leaves-2-clause-counts : goal.returns-in_err-push_leaves-2-clause-counts
+returns-in_err-push_leaves-2-clause-counts g t c =
+    omega (arith, c.push_lists.ensures.counts, c.push_leaves.ensures.counts, c.push_leaves-then-len-field_count.ensures.counts)
+
+pub returns-then-len-field_count-clause-serves : goal.returns-then-len-field_count-clause-serves
+returns-then-len-field_count-clause-serves g t c e h =
+    c.push_leaves-then-len-field_count.ensures.serves e (c.push_leaves.ensures.serves e (c.push_lists.ensures.serves e h))
+
+pub returns-then-len-field_count-clause-keeps : goal.returns-then-len-field_count-clause-keeps
+returns-then-len-field_count-clause-keeps g t c f h =
+    c.push_leaves-then-len-field_count.ensures.keeps f (c.push_leaves.ensures.keeps f (c.push_lists.ensures.keeps f h))
+
+pub returns-then-len-field_count-clause-counts : goal.returns-then-len-field_count-clause-counts
+returns-then-len-field_count-clause-counts g t c =
+    omega (arith, c.push_lists.ensures.counts, c.push_leaves.ensures.counts, c.push_leaves-then-len-field_count.ensures.counts)
+
+pub returns-in_err-push_closed-clause-serves : goal.returns-in_err-push_closed-clause-serves
+returns-in_err-push_closed-clause-serves g t c = c.push_lists.ensures.serves
+
+pub returns-in_err-push_closed-clause-keeps : goal.returns-in_err-push_closed-clause-keeps
+returns-in_err-push_closed-clause-keeps g t c = c.push_lists.ensures.keeps
+
+pub returns-in_err-push_closed-clause-counts : goal.returns-in_err-push_closed-clause-counts
+returns-in_err-push_closed-clause-counts g t c = c.push_lists.ensures.counts
+
+pub returns-clause-serves : goal.returns-clause-serves
+returns-clause-serves g t c = c.push_lists.ensures.serves
+
+pub returns-clause-keeps : goal.returns-clause-keeps
+returns-clause-keeps g t c = c.push_lists.ensures.keeps
+
+pub returns-clause-counts : goal.returns-clause-counts
+returns-clause-counts g t c = c.push_lists.ensures.counts

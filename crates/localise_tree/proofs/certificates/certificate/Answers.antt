@@ -14,3 +14,21 @@ returns-clause-leaves g c =
     ∙ ap (λ (ls : List Leaf). ls ++ leaves_below (case_in c.args.problem.now) (taken_paths c.args.taken.now) c.new.result.items) c.new-3.ensures.items
     ∙ ap (λ (p : List Bool). leaves_below (case_in c.args.problem.now) (taken_paths c.args.taken.now) p) c.new.ensures.items
     ∙ ap (λ n. leaves_from (case_in c.args.problem.now) (taken_paths c.args.taken.now) n []) all
+
+pub returns-in_err-push_leaves-clause-serves : goal.returns-in_err-push_leaves-clause-serves
+returns-in_err-push_leaves-clause-serves g c = c.push_leaves.ensures.serves
+
+pub returns-in_err-push_leaves-clause-keeps : goal.returns-in_err-push_leaves-clause-keeps
+returns-in_err-push_leaves-clause-keeps g c = c.push_leaves.ensures.keeps
+
+pub returns-in_err-push_leaves-clause-counts : goal.returns-in_err-push_leaves-clause-counts
+returns-in_err-push_leaves-clause-counts g c = c.push_leaves.ensures.counts
+
+pub returns-clause-serves : goal.returns-clause-serves
+returns-clause-serves g c = c.push_leaves.ensures.serves
+
+pub returns-clause-keeps : goal.returns-clause-keeps
+returns-clause-keeps g c = c.push_leaves.ensures.keeps
+
+pub returns-clause-counts : goal.returns-clause-counts
+returns-clause-counts g c = c.push_leaves.ensures.counts

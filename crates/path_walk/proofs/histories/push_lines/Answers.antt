@@ -12,3 +12,21 @@ returns-clause-history g c =
       | else-not-is_empty-via-then-not-is_empty+else-not-letters w ↦ inr (grind (arith, w.if-not-is_empty.ensures), w.if-not-letters.false)
       | else-not-is_empty-via-else-not-is_empty w ↦ inl ((Decides-eqb (length c.args.path.letters.now) 0).0 (sym w.if-not-is_empty.ensures))
     ])
+
+pub returns-in_err-push_system-clause-serves : goal.returns-in_err-push_system-clause-serves
+returns-in_err-push_system-clause-serves g c = c.push_system.ensures.serves
+
+pub returns-in_err-push_system-clause-keeps : goal.returns-in_err-push_system-clause-keeps
+returns-in_err-push_system-clause-keeps g c = c.push_system.ensures.keeps
+
+pub returns-in_err-push_system-clause-counts : goal.returns-in_err-push_system-clause-counts
+returns-in_err-push_system-clause-counts g c = c.push_system.ensures.counts
+
+pub returns-clause-serves : goal.returns-clause-serves
+returns-clause-serves g c = c.push_system.ensures.serves
+
+pub returns-clause-keeps : goal.returns-clause-keeps
+returns-clause-keeps g c = c.push_system.ensures.keeps
+
+pub returns-clause-counts : goal.returns-clause-counts
+returns-clause-counts g c = c.push_system.ensures.counts

@@ -9,3 +9,21 @@ pub last_pairs-pairs-requires-clause-shape : goal.last_pairs-pairs-requires-clau
 last_pairs-pairs-requires-clause-shape g c =
     OneShape-have c.system.result.now.edits.shape c.lines.result.now
     (subst (λ (ls : List Derived). HaveShape c.system.result.now.edits.shape (lines_of ls)) (sym c.lines.ensures.lines) c.lines.ensures.over)
+
+pub returns-in_err-look_at_path-clause-serves : goal.returns-in_err-look_at_path-clause-serves
+returns-in_err-look_at_path-clause-serves g c = c.look_at_path.ensures.serves
+
+pub returns-in_err-look_at_path-clause-keeps : goal.returns-in_err-look_at_path-clause-keeps
+returns-in_err-look_at_path-clause-keeps g c = c.look_at_path.ensures.keeps
+
+pub returns-in_err-look_at_path-clause-counts : goal.returns-in_err-look_at_path-clause-counts
+returns-in_err-look_at_path-clause-counts g c = c.look_at_path.ensures.counts
+
+pub returns-clause-serves : goal.returns-clause-serves
+returns-clause-serves g c = c.look_at_path.ensures.serves
+
+pub returns-clause-keeps : goal.returns-clause-keeps
+returns-clause-keeps g c = c.look_at_path.ensures.keeps
+
+pub returns-clause-counts : goal.returns-clause-counts
+returns-clause-counts g c = c.look_at_path.ensures.counts

@@ -18,3 +18,30 @@ returns-then-not-ends_changed-clause-system g c =
     let same = kept-numbers case c.args.letters.now c.requires.fit (sym c.ends_changed.ensures.changed ∙ c.if-not-ends_changed.true) in
     subst (λ (h : Held). IsPathSystem case c.args.letters.now h) (sym c.in_ok-share.ensures)
     (kept-system case c.args.letters.now (arc_value c.args.before.now) same c.requires.system)
+
+pub returns-in_err-in_arc-in-Ok-clause-serves : goal.returns-in_err-in_arc-in-Ok-clause-serves
+returns-in_err-in_arc-in-Ok-clause-serves g c = c.changed_system.ensures.serves
+
+pub returns-in_err-in_arc-in-Ok-clause-keeps : goal.returns-in_err-in_arc-in-Ok-clause-keeps
+returns-in_err-in_arc-in-Ok-clause-keeps g c = c.changed_system.ensures.keeps
+
+pub returns-in_err-in_arc-in-Ok-clause-counts : goal.returns-in_err-in_arc-in-Ok-clause-counts
+returns-in_err-in_arc-in-Ok-clause-counts g c = c.changed_system.ensures.counts
+
+pub returns-in_ok-in_arc-in-Ok-clause-serves : goal.returns-in_ok-in_arc-in-Ok-clause-serves
+returns-in_ok-in_arc-in-Ok-clause-serves g c = c.changed_system.ensures.serves
+
+pub returns-in_ok-in_arc-in-Ok-clause-keeps : goal.returns-in_ok-in_arc-in-Ok-clause-keeps
+returns-in_ok-in_arc-in-Ok-clause-keeps g c = c.changed_system.ensures.keeps
+
+pub returns-in_ok-in_arc-in-Ok-clause-counts : goal.returns-in_ok-in_arc-in-Ok-clause-counts
+returns-in_ok-in_arc-in-Ok-clause-counts g c = c.changed_system.ensures.counts
+
+pub returns-in-Err-clause-serves : goal.returns-in-Err-clause-serves
+returns-in-Err-clause-serves g c = c.changed_system.ensures.serves
+
+pub returns-in-Err-clause-keeps : goal.returns-in-Err-clause-keeps
+returns-in-Err-clause-keeps g c = c.changed_system.ensures.keeps
+
+pub returns-in-Err-clause-counts : goal.returns-in-Err-clause-counts
+returns-in-Err-clause-counts g c = c.changed_system.ensures.counts

@@ -1,4 +1,4 @@
-use Rattle.std.proofs.Common.{◌≡◌, ◌<◌, ◌∙◌, ◌++◌, Global, IfOk, List, All, Ok, Result, Vec, length, map, rules, take, true, subst, sym}
+use Rattle.std.proofs.Common.{◌≡◌, ◌<◌, ◌∙◌, ◌++◌, Global, IfOk, List, All, Ok, Result, Vec, ap, arith, length, map, rules, take, true, subst, sym}
 use Rattle.std.specs.List.{Any}
 use Rattle.std.specs.List.Sorted.{IsPermutation}
 use Rattle.std.proofs.lemmas.List.{length-map}
@@ -26,6 +26,23 @@ close-requires-clause-row g c =
     subst (All (λ (s : SeatState). s.row ≡ c.args.tickets.row)) (sym c.in_ok-seats.ensures.seats)
     (seats-shared (shared_of c.args.rest.now c.args.tickets c.args.books) c.in_ok-workers.workers.items
     (of-workers (λ ws. All (HasRun (shared_of c.args.rest.now c.args.tickets c.args.books)) ws) c.in_ok-workers.was c.requires.ran))
+
+pub close-requires-clause-all : goal.close-requires-clause-all
+close-requires-clause-all g c =
+    let ran = c.in_ok-workers.workers.items in
+    ap length c.in_ok-seats.ensures.seats ∙ length-map ran (λ (w : Worker). w.seat)
+    ∙ of-workers (λ ws. length ws ≡ c.args.tickets.seats) c.in_ok-workers.was c.requires.seats
+
+pub close-histories-requires-clause-all : goal.close-histories-requires-clause-all
+close-histories-requires-clause-all g c =
+    let ran = c.in_ok-workers.workers.items in
+    ap length c.in_ok-seats.ensures.passes ∙ length-map ran (λ (w : Worker). w.pass)
+    ∙ of-workers (λ ws. length ws ≡ c.args.tickets.seats) c.in_ok-workers.was c.requires.seats ∙ sym c.requires.passes
+
+pub history_of-requires : goal.history_of-requires
+history_of-requires g c =
+    let many = ap length c.deref-2.ensures.value in
+    omega (arith, c.last.ensures, many, c.close-histories.ensures.histories, c.requires.shared.classes)
 
 pub close-histories-requires-clause-classes : goal.close-histories-requires-clause-classes
 close-histories-requires-clause-classes g c =

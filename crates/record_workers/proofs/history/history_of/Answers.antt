@@ -1,11 +1,15 @@
 use Rattle.std.proofs.Common.{List, ◌∙◌, ap, arith, map, sym, take}
 use Rattle.std.specs.List.{flat_map}
+use Rattle.std.proofs.lemmas.Grind.{common_steps}
 use Rattle.std.proofs.lemmas.List.{append-nil, take-map, take_all}
 use Rattle.donor_book.specs.declared.claim.Won.{Won}
 use Rattle.class_books.specs.Histories.{joined}
 use Rattle.record_workers.specs.inner.Gatherings.{entry_by}
 use Rattle.record_workers.proofs.JoinedLaws.{joined-made}
 use Rattle.record_workers.proofs.history.history_of.Goals as goal
+
+pub loop-wins-preserved : goal.loop-wins-preserved
+loop-wins-preserved c = grind (arith, common_steps)
 
 pub loop-piece-init : goal.loop-piece-init
 loop-piece-init c =
@@ -17,3 +21,6 @@ loop-piece-init c =
     ∙ joined-made entry (λ h. h.items) first
     ∙ ap (λ (hs : List (List Won)). map entry (joined hs)) (sym (take-map (λ h. h.items) c.args.last c.args.histories.now))
     ∙ sym (append-nil _)
+
+pub loop-piece-preserved : goal.loop-piece-preserved
+loop-piece-preserved c = grind (arith, common_steps)

@@ -1,0 +1,18 @@
+use Rattle.record_workers.specs.declared.worker.Worker.{Worker}
+use Rattle.record_workers.proofs.MoveLaws.{flat-moved, map-moved}
+use Rattle.record_workers.proofs.parts.parts_of.Goals as goal
+
+pub loop-worker-preserved : goal.loop-worker-preserved
+loop-worker-preserved c =
+    let loop = c.loop-worker in
+    let left = loop.worker-iterator.rest.items in
+    let rest = c.next.new.self.rest.items in
+    let is = c.in-Some.ensures.steps.0 in
+    let all = loop.invariant in
+    let added = c.in_ok-add.ensures in
+    let parts = c.add.new.self in
+    record {
+      seats = map-moved c.in-Some.worker left rest is loop.parts.seats.items parts.seats.items _ (λ (w : Worker). w.seat) added.seats all.seats;
+      passes = map-moved c.in-Some.worker left rest is loop.parts.passes.items parts.passes.items _ (λ (w : Worker). w.pass) added.passes all.passes;
+      pieces = flat-moved c.in-Some.worker left rest is loop.parts.pieces.items parts.pieces.items _ (λ (w : Worker). w.pieces.items) added.pieces all.pieces;
+    }
