@@ -24,7 +24,7 @@ use Rattle.record_pieces.proofs.NeedLaws.{in-other-order, need-from, need-in, ro
 use Rattle.record_workers.specs.Workers.{AnswersInClasses, IsShared, last_class, pieces_in}
 use Rattle.record_workers.specs.declared.shared.Shared.{Shared}
 use Rattle.record_workers.specs.declared.worker.Worker.{Worker}
-use Rattle.record_workers.specs.inner.Gatherings.{HasRun, entry_by, passes_of, pieces_of, seats_of, unanswered, unanswered_for}
+use Rattle.record_workers.specs.inner.Gatherings.{HasRun, entry_by, passes_of, pieces_of, seats_of, unanswered}
 use Rattle.record_workers.proofs.AloneLaws.{alone-rising}
 use Rattle.record_workers.proofs.ApartLaws.{needs-apart, rows-apart}
 use Rattle.record_workers.proofs.BookLaws.{piece-within, ranks-none}

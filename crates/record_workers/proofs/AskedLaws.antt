@@ -1,4 +1,4 @@
-use Rattle.std.proofs.Common.{◌≡◌, ◌≢◌, ◌⊎◌, ℕ, ◌<◌, ◌++◌, true, false, eqb, List, [], ◌∷◌, Option, Some, None, IsSome, length, map, inl, inr, refl, sym, ap}
+use Rattle.std.proofs.Common.{◌≡◌, ◌≢◌, ◌⊎◌, ℕ, ◌++◌, true, false, eqb, List, [], ◌∷◌, Option, Some, None, IsSome, length, map, inl, inr, refl, sym, ap}
 use Rattle.std.proofs.Common.{◌∙◌, subst}
 use Rattle.std.proofs.lemmas.Bool.Decides.{eqb_tells}
 use Rattle.std.proofs.lemmas.List.{append_assoc, map-append}
@@ -10,9 +10,9 @@ use Rattle.donor_book.specs.declared.claim.Claim.TheVariants as claim
 use Rattle.donor_book.specs.declared.claim.Won.{Won}
 use Rattle.donor_book.specs.declared.rule.Placed.{Placed}
 use Rattle.class_books.specs.ClassPasses.{ClassPassState, pass_in, state_in}
-use Rattle.record_pieces.specs.Needs.{Need, need_in}
+use Rattle.record_pieces.specs.Needs.{need_in}
 use Rattle.record_pieces.specs.declared.piece.Piece.{Piece}
-use Rattle.record_workers.specs.Workers.{ArePlacedIn, HasSeen, needs_in}
+use Rattle.record_workers.specs.Workers.{ArePlacedIn}
 use Rattle.record_workers.specs.inner.Draws.{HasAsked, HasAskedIn, HasClaimed}
 
 -- What a claim leaves in a pass.

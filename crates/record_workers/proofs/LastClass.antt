@@ -1,4 +1,4 @@
-use Rattle.std.proofs.Common.{◌≡◌, ◌≢◌, ◌⊎◌, ℕ, ◌++◌, ◌&&◌, Bool, true, false, cond, eqb, List, [], ◌∷◌, Option, Some, None, map, inl, inr, refl, sym, ap, ◌∙◌}
+use Rattle.std.proofs.Common.{◌≡◌, ◌≢◌, ◌⊎◌, ℕ, ◌++◌, ◌&&◌, Bool, true, false, eqb, List, [], ◌∷◌, Option, Some, None, map, inl, inr, refl, sym, ap, ◌∙◌}
 use Rattle.std.proofs.Common.{subst}
 use Rattle.std.specs.Prelude.{◌==◌, if◌then◌else◌}
 use Rattle.std.specs.List.{IsDistinct, filter}
@@ -20,7 +20,7 @@ use Rattle.record_pieces.specs.Needs.{AnswersNeeds, AreInRowOrder, Need, need_in
 use Rattle.record_pieces.specs.Rests.{rows_of}
 use Rattle.record_pieces.specs.declared.piece.Piece.{Piece}
 use Rattle.record_workers.specs.Workers.{pieces_in}
-use Rattle.record_workers.specs.inner.Gatherings.{unanswered, unanswered_by, unanswered_for}
+use Rattle.record_workers.specs.inner.Gatherings.{unanswered, unanswered_for}
 use Rattle.record_workers.proofs.ApartLaws.{rows-sorted}
 use Rattle.record_workers.proofs.OrderLaws.{AreApart}
 

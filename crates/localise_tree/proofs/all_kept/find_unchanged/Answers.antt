@@ -1,5 +1,6 @@
 use Rattle.std.proofs.Common.{◌≡◌, ◌<◌, rules, List, true, length, ap, ◌∙◌}
 use Rattle.std.specs.Arc.{arc_value}
+use Rattle.std.proofs.lemmas.Result.{IfOk-from_err}
 use Rattle.edit_model.specs.declared.field.Field.{Field}
 use Rattle.edit_paths.specs.Cases.{case_of}
 use Rattle.localise_tree.specs.inner.AllKept.{all_kept, holds_throughout}
@@ -48,3 +49,15 @@ returns-clause-keeps g c = c.ask_for_start.ensures.keeps
 
 pub returns-clause-counts : goal.returns-clause-counts
 returns-clause-counts g c = c.ask_for_start.ensures.counts
+
+pub returns-in_err-ask_for_start-clause-exact : goal.returns-in_err-ask_for_start-clause-exact
+returns-in_err-ask_for_start-clause-exact g c = IfOk-from_err _ _ c.from_residual.ensures.0
+
+pub returns-in_err-ask_for_start-clause-kept : goal.returns-in_err-ask_for_start-clause-kept
+returns-in_err-ask_for_start-clause-kept g c = IfOk-from_err _ _ c.from_residual.ensures.0
+
+pub returns-in_err-unchanged_outcome-clause-exact : goal.returns-in_err-unchanged_outcome-clause-exact
+returns-in_err-unchanged_outcome-clause-exact g c = IfOk-from_err _ _ c.from_residual-in_err-unchanged_outcome.ensures.0
+
+pub returns-in_err-unchanged_outcome-clause-kept : goal.returns-in_err-unchanged_outcome-clause-kept
+returns-in_err-unchanged_outcome-clause-kept g c = IfOk-from_err _ _ c.from_residual-in_err-unchanged_outcome.ensures.0

@@ -1,5 +1,6 @@
 use Rattle.std.proofs.Common.{◌≡◌, Option, IfSome, arith, subst}
 use Rattle.std.specs.Arc.{arc_value}
+use Rattle.std.proofs.lemmas.Result.{IfOk-from_err}
 use Rattle.bound_cert.specs.declared.outcome.Outcome.{Outcome}
 use Rattle.edit_paths.specs.Cases.{case_of}
 use Rattle.edit_paths.specs.Outcomes.{outcome_of}
@@ -62,3 +63,15 @@ returns-clause-keeps g c f h = c.search.ensures.keeps f (c.find_unchanged.ensure
 
 pub returns-clause-counts : goal.returns-clause-counts
 returns-clause-counts g c = omega (arith, c.find_unchanged.ensures.counts, c.search.ensures.counts)
+
+pub returns-in_err-outcome-clause-exact : goal.returns-in_err-outcome-clause-exact
+returns-in_err-outcome-clause-exact g c = IfOk-from_err _ _ c.from_residual.ensures.0
+
+pub returns-in_err-outcome-clause-kept : goal.returns-in_err-outcome-clause-kept
+returns-in_err-outcome-clause-kept g c = IfOk-from_err _ _ c.from_residual.ensures.0
+
+pub returns-in_err-wholes-clause-exact : goal.returns-in_err-wholes-clause-exact
+returns-in_err-wholes-clause-exact g c = IfOk-from_err _ _ c.from_residual-in_err-wholes.ensures.0
+
+pub returns-in_err-wholes-clause-kept : goal.returns-in_err-wholes-clause-kept
+returns-in_err-wholes-clause-kept g c = IfOk-from_err _ _ c.from_residual-in_err-wholes.ensures.0

@@ -1,5 +1,6 @@
 use Rattle.std.proofs.Common.{◌≡◌, ◌≤◌, ◌-◌, ◌++◌, [], ◌∷◌, Bool, List, Option, IfSome, ap, ◌∙◌, sym, subst, arith}
 use Rattle.std.specs.List.{AllByRecursion}
+use Rattle.std.proofs.lemmas.Result.{IfOk-from_err}
 use Rattle.bound_cert.specs.declared.outcome.Outcome.TheVariants as outcome
 use Rattle.edit_paths.specs.declared.state.PathState.TheVariants.{Open}
 use Rattle.path_walk.specs.KeptFields.{KeepsChanged}
@@ -218,3 +219,45 @@ certificate-requires-clause-served g c = c.loop-node.invariant.2 _ (c.first_end.
 pub certificate-requires-clause-taken : goal.certificate-requires-clause-taken
 certificate-requires-clause-taken g c =
     subst (λ (ts : List Taken). AllByRecursion (IsTaken (case_in c.args.problem.now)) ts) (sym c.deref-2.ensures.value) c.loop-node.invariant.0.taken_are
+
+pub returns-in_err-ends-clause-exact : goal.returns-in_err-ends-clause-exact
+returns-in_err-ends-clause-exact g c = IfOk-from_err _ _ c.from_residual.ensures.0
+
+pub returns-in_err-ends-clause-kept : goal.returns-in_err-ends-clause-kept
+returns-in_err-ends-clause-kept g c = IfOk-from_err _ _ c.from_residual.ensures.0
+
+pub returns-in_err-look-clause-exact : goal.returns-in_err-look-clause-exact
+returns-in_err-look-clause-exact g c = IfOk-from_err _ _ c.from_residual-in_err-look.ensures.0
+
+pub returns-in_err-look-clause-kept : goal.returns-in_err-look-clause-kept
+returns-in_err-look-clause-kept g c = IfOk-from_err _ _ c.from_residual-in_err-look.ensures.0
+
+pub returns-in_err-outcome-clause-exact : goal.returns-in_err-outcome-clause-exact
+returns-in_err-outcome-clause-exact g c = IfOk-from_err _ _ c.from_residual-in_err-outcome.ensures.0
+
+pub returns-in_err-outcome-clause-kept : goal.returns-in_err-outcome-clause-kept
+returns-in_err-outcome-clause-kept g c = IfOk-from_err _ _ c.from_residual-in_err-outcome.ensures.0
+
+pub returns-in_err-basis-clause-exact : goal.returns-in_err-basis-clause-exact
+returns-in_err-basis-clause-exact g c = IfOk-from_err _ _ c.from_residual-in_err-basis.ensures.0
+
+pub returns-in_err-basis-clause-kept : goal.returns-in_err-basis-clause-kept
+returns-in_err-basis-clause-kept g c = IfOk-from_err _ _ c.from_residual-in_err-basis.ensures.0
+
+pub returns-in_err-lead_on-clause-exact : goal.returns-in_err-lead_on-clause-exact
+returns-in_err-lead_on-clause-exact g c = IfOk-from_err _ _ c.from_residual-in_err-lead_on.ensures.0
+
+pub returns-in_err-lead_on-clause-kept : goal.returns-in_err-lead_on-clause-kept
+returns-in_err-lead_on-clause-kept g c = IfOk-from_err _ _ c.from_residual-in_err-lead_on.ensures.0
+
+pub returns-in_err-push-clause-exact : goal.returns-in_err-push-clause-exact
+returns-in_err-push-clause-exact g c = IfOk-from_err _ _ c.from_residual-in_err-push.ensures.0
+
+pub returns-in_err-push-clause-kept : goal.returns-in_err-push-clause-kept
+returns-in_err-push-clause-kept g c = IfOk-from_err _ _ c.from_residual-in_err-push.ensures.0
+
+pub returns-in_err-certificate-clause-exact : goal.returns-in_err-certificate-clause-exact
+returns-in_err-certificate-clause-exact g c = IfOk-from_err _ _ c.from_residual-in_err-certificate.ensures.0
+
+pub returns-in_err-certificate-clause-kept : goal.returns-in_err-certificate-clause-kept
+returns-in_err-certificate-clause-kept g c = IfOk-from_err _ _ c.from_residual-in_err-certificate.ensures.0

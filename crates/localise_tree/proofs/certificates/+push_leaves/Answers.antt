@@ -1,6 +1,7 @@
 use Rattle.std.proofs.Common.{Bool, List, [], ap, arith, false, length, refl, rules, subst, sym, true, vec_len, ◌++◌, ◌-◌, ◌<◌, ◌≤◌}
 use Rattle.std.proofs.Common.{◌∙◌, ◌∷◌, ◌≡◌}
 use Rattle.std.specs.Option.{option_copied}
+use Rattle.std.proofs.lemmas.Result.{IfOk-from_err}
 use Rattle.edit_paths.specs.Paths.{before_last, field_count}
 use Rattle.path_walk.specs.Bases.{IsKnownBasis}
 use Rattle.path_walk.specs.Lists.{HasLists, HasListsBefore}
@@ -224,3 +225,66 @@ returns-clause-keeps g t c = c.push_lists.ensures.keeps
 
 pub returns-clause-counts : goal.returns-clause-counts
 returns-clause-counts g t c = c.push_lists.ensures.counts
+
+pub returns-in_err-push_leaf-clause-letters : goal.returns-in_err-push_leaf-clause-letters
+returns-in_err-push_leaf-clause-letters g t c = IfOk-from_err _ _ c.from_residual.ensures.0
+
+pub returns-in_err-push_leaf-clause-levels : goal.returns-in_err-push_leaf-clause-levels
+returns-in_err-push_leaf-clause-levels g t c = IfOk-from_err _ _ c.from_residual.ensures.0
+
+pub returns-in_err-push_leaf-clause-leaves : goal.returns-in_err-push_leaf-clause-leaves
+returns-in_err-push_leaf-clause-leaves g t c = IfOk-from_err _ _ c.from_residual.ensures.0
+
+pub returns-in_err-push_lists-clause-letters : goal.returns-in_err-push_lists-clause-letters
+returns-in_err-push_lists-clause-letters g t c = IfOk-from_err _ _ c.from_residual-in_err-push_lists.ensures.0
+
+pub returns-in_err-push_lists-clause-levels : goal.returns-in_err-push_lists-clause-levels
+returns-in_err-push_lists-clause-levels g t c = IfOk-from_err _ _ c.from_residual-in_err-push_lists.ensures.0
+
+pub returns-in_err-push_lists-clause-leaves : goal.returns-in_err-push_lists-clause-leaves
+returns-in_err-push_lists-clause-leaves g t c = IfOk-from_err _ _ c.from_residual-in_err-push_lists.ensures.0
+
+pub returns-in_err-push-clause-letters : goal.returns-in_err-push-clause-letters
+returns-in_err-push-clause-letters g t c = IfOk-from_err _ _ c.from_residual-in_err-push.ensures.0
+
+pub returns-in_err-push-clause-levels : goal.returns-in_err-push-clause-levels
+returns-in_err-push-clause-levels g t c = IfOk-from_err _ _ c.from_residual-in_err-push.ensures.0
+
+pub returns-in_err-push-clause-leaves : goal.returns-in_err-push-clause-leaves
+returns-in_err-push-clause-leaves g t c = IfOk-from_err _ _ c.from_residual-in_err-push.ensures.0
+
+pub returns-in_err-push_leaves-clause-letters : goal.returns-in_err-push_leaves-clause-letters
+returns-in_err-push_leaves-clause-letters g t c = IfOk-from_err _ _ c.from_residual-in_err-push_leaves.ensures.0
+
+pub returns-in_err-push_leaves-clause-levels : goal.returns-in_err-push_leaves-clause-levels
+returns-in_err-push_leaves-clause-levels g t c = IfOk-from_err _ _ c.from_residual-in_err-push_leaves.ensures.0
+
+pub returns-in_err-push_leaves-clause-leaves : goal.returns-in_err-push_leaves-clause-leaves
+returns-in_err-push_leaves-clause-leaves g t c = IfOk-from_err _ _ c.from_residual-in_err-push_leaves.ensures.0
+
+pub returns-in_err-push-2-clause-letters : goal.returns-in_err-push-2-clause-letters
+returns-in_err-push-2-clause-letters g t c = IfOk-from_err _ _ c.from_residual-in_err-push-2.ensures.0
+
+pub returns-in_err-push-2-clause-levels : goal.returns-in_err-push-2-clause-levels
+returns-in_err-push-2-clause-levels g t c = IfOk-from_err _ _ c.from_residual-in_err-push-2.ensures.0
+
+pub returns-in_err-push-2-clause-leaves : goal.returns-in_err-push-2-clause-leaves
+returns-in_err-push-2-clause-leaves g t c = IfOk-from_err _ _ c.from_residual-in_err-push-2.ensures.0
+
+pub returns-in_err-push_leaves-2-clause-letters : goal.returns-in_err-push_leaves-2-clause-letters
+returns-in_err-push_leaves-2-clause-letters g t c = IfOk-from_err _ _ c.from_residual-in_err-push_leaves-2.ensures.0
+
+pub returns-in_err-push_leaves-2-clause-levels : goal.returns-in_err-push_leaves-2-clause-levels
+returns-in_err-push_leaves-2-clause-levels g t c = IfOk-from_err _ _ c.from_residual-in_err-push_leaves-2.ensures.0
+
+pub returns-in_err-push_leaves-2-clause-leaves : goal.returns-in_err-push_leaves-2-clause-leaves
+returns-in_err-push_leaves-2-clause-leaves g t c = IfOk-from_err _ _ c.from_residual-in_err-push_leaves-2.ensures.0
+
+pub returns-in_err-push_closed-clause-letters : goal.returns-in_err-push_closed-clause-letters
+returns-in_err-push_closed-clause-letters g t c = IfOk-from_err _ _ c.from_residual-in_err-push_closed.ensures.0
+
+pub returns-in_err-push_closed-clause-levels : goal.returns-in_err-push_closed-clause-levels
+returns-in_err-push_closed-clause-levels g t c = IfOk-from_err _ _ c.from_residual-in_err-push_closed.ensures.0
+
+pub returns-in_err-push_closed-clause-leaves : goal.returns-in_err-push_closed-clause-leaves
+returns-in_err-push_closed-clause-leaves g t c = IfOk-from_err _ _ c.from_residual-in_err-push_closed.ensures.0

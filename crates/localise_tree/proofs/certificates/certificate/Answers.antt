@@ -1,4 +1,5 @@
 use Rattle.std.proofs.Common.{Bool, List, [], ap, arith, ◌++◌, ◌-◌, ◌∙◌, ◌≡◌}
+use Rattle.std.proofs.lemmas.Result.{IfOk-from_err}
 use Rattle.bound_cert.specs.declared.cert.Leaf.{Leaf}
 use Rattle.edit_paths.specs.Certificates.{leaves_from}
 use Rattle.edit_paths.specs.Paths.{field_count}
@@ -32,3 +33,9 @@ returns-clause-keeps g c = c.push_leaves.ensures.keeps
 
 pub returns-clause-counts : goal.returns-clause-counts
 returns-clause-counts g c = c.push_leaves.ensures.counts
+
+pub returns-in_err-places_of-clause-leaves : goal.returns-in_err-places_of-clause-leaves
+returns-in_err-places_of-clause-leaves g c = IfOk-from_err _ _ c.from_residual.ensures.0
+
+pub returns-in_err-push_leaves-clause-leaves : goal.returns-in_err-push_leaves-clause-leaves
+returns-in_err-push_leaves-clause-leaves g c = IfOk-from_err _ _ c.from_residual-in_err-push_leaves.ensures.0

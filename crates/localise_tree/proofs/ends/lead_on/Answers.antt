@@ -1,4 +1,5 @@
 use Rattle.std.proofs.Common.{◌≡◌, ◌&&◌, [], ◌∷◌, false, true, not, sym, ap, ◌∙◌}
+use Rattle.std.proofs.lemmas.Result.{IfOk-from_err}
 use Rattle.edit_paths.specs.PathStates.{is_open}
 use Rattle.edit_paths.specs.Paths.{is_complete}
 use Rattle.edit_paths.specs.ReachedPaths.{changed_next, kept_next}
@@ -85,3 +86,48 @@ child-requires-2-clause-basis c =
     let opened = leads-open c.args.look.state (is_complete (case_in c.args.problem.now) c.args.node.now.path) c.leads_on.result c.leads_on.ensures
     c.if-not-leads_on.false in
     c.requires.look.basis (ap (λ (s : PathState). has_basis s) opened)
+
+pub returns-in_err-share-clause-paths : goal.returns-in_err-share-clause-paths
+returns-in_err-share-clause-paths c = IfOk-from_err _ _ c.from_residual.ensures.0
+
+pub returns-in_err-share-clause-nodes : goal.returns-in_err-share-clause-nodes
+returns-in_err-share-clause-nodes c = IfOk-from_err _ _ c.from_residual.ensures.0
+
+pub returns-in_err-share-clause-kept : goal.returns-in_err-share-clause-kept
+returns-in_err-share-clause-kept c = IfOk-from_err _ _ c.from_residual.ensures.0
+
+pub returns-in_err-kept-clause-paths : goal.returns-in_err-kept-clause-paths
+returns-in_err-kept-clause-paths c = IfOk-from_err _ _ c.from_residual-in_err-kept.ensures.0
+
+pub returns-in_err-kept-clause-nodes : goal.returns-in_err-kept-clause-nodes
+returns-in_err-kept-clause-nodes c = IfOk-from_err _ _ c.from_residual-in_err-kept.ensures.0
+
+pub returns-in_err-kept-clause-kept : goal.returns-in_err-kept-clause-kept
+returns-in_err-kept-clause-kept c = IfOk-from_err _ _ c.from_residual-in_err-kept.ensures.0
+
+pub returns-in_err-changed-clause-paths : goal.returns-in_err-changed-clause-paths
+returns-in_err-changed-clause-paths c = IfOk-from_err _ _ c.from_residual-in_err-changed.ensures.0
+
+pub returns-in_err-changed-clause-nodes : goal.returns-in_err-changed-clause-nodes
+returns-in_err-changed-clause-nodes c = IfOk-from_err _ _ c.from_residual-in_err-changed.ensures.0
+
+pub returns-in_err-changed-clause-kept : goal.returns-in_err-changed-clause-kept
+returns-in_err-changed-clause-kept c = IfOk-from_err _ _ c.from_residual-in_err-changed.ensures.0
+
+pub returns-in_err-place_end-clause-paths : goal.returns-in_err-place_end-clause-paths
+returns-in_err-place_end-clause-paths c = IfOk-from_err _ _ c.from_residual-in_err-place_end.ensures.0
+
+pub returns-in_err-place_end-clause-nodes : goal.returns-in_err-place_end-clause-nodes
+returns-in_err-place_end-clause-nodes c = IfOk-from_err _ _ c.from_residual-in_err-place_end.ensures.0
+
+pub returns-in_err-place_end-clause-kept : goal.returns-in_err-place_end-clause-kept
+returns-in_err-place_end-clause-kept c = IfOk-from_err _ _ c.from_residual-in_err-place_end.ensures.0
+
+pub returns-in_err-place_end-2-clause-paths : goal.returns-in_err-place_end-2-clause-paths
+returns-in_err-place_end-2-clause-paths c = IfOk-from_err _ _ c.from_residual-in_err-place_end-2.ensures.0
+
+pub returns-in_err-place_end-2-clause-nodes : goal.returns-in_err-place_end-2-clause-nodes
+returns-in_err-place_end-2-clause-nodes c = IfOk-from_err _ _ c.from_residual-in_err-place_end-2.ensures.0
+
+pub returns-in_err-place_end-2-clause-kept : goal.returns-in_err-place_end-2-clause-kept
+returns-in_err-place_end-2-clause-kept c = IfOk-from_err _ _ c.from_residual-in_err-place_end-2.ensures.0

@@ -1,5 +1,6 @@
 use Rattle.std.proofs.Common.{inl, inr, length, sym, arith, ◌∙◌}
 use Rattle.std.proofs.lemmas.Bool.Decides.{Decides-eqb}
+use Rattle.std.proofs.lemmas.Result.{IfOk-from_err}
 use Rattle.path_walk.specs.Problems.{case_in}
 use Rattle.path_walk.proofs.LastLetters.{lines-pushed}
 use Rattle.path_walk.proofs.histories.push_lines.Goals as goal
@@ -30,3 +31,9 @@ returns-clause-keeps g c = c.push_system.ensures.keeps
 
 pub returns-clause-counts : goal.returns-clause-counts
 returns-clause-counts g c = c.push_system.ensures.counts
+
+pub returns-in_err-push_system-clause-history : goal.returns-in_err-push_system-clause-history
+returns-in_err-push_system-clause-history g c = IfOk-from_err _ _ c.from_residual.ensures.0
+
+pub returns-in_err-push_system-clause-grown : goal.returns-in_err-push_system-clause-grown
+returns-in_err-push_system-clause-grown g c = IfOk-from_err _ _ c.from_residual.ensures.0

@@ -1,3 +1,4 @@
+use Rattle.std.proofs.lemmas.Result.{IfOk-from_err}
 use Rattle.path_walk.proofs.histories.push_lists.Goals as goal
 
 pub returns-in_err-push_lines-clause-serves : goal.returns-in_err-push_lines-clause-serves
@@ -26,3 +27,21 @@ returns-in_err-push_first_boxes-clause-keeps g c = c.push_first_boxes.ensures.ke
 
 pub returns-in_err-push_first_boxes-clause-counts : goal.returns-in_err-push_first_boxes-clause-counts
 returns-in_err-push_first_boxes-clause-counts g c = c.push_first_boxes.ensures.counts
+
+pub returns-in_err-push_lines-clause-lists : goal.returns-in_err-push_lines-clause-lists
+returns-in_err-push_lines-clause-lists g c = IfOk-from_err _ _ c.from_residual.ensures.0
+
+pub returns-in_err-push_lines-clause-grown : goal.returns-in_err-push_lines-clause-grown
+returns-in_err-push_lines-clause-grown g c = IfOk-from_err _ _ c.from_residual.ensures.0
+
+pub returns-in_err-push_first_boxes-clause-lists : goal.returns-in_err-push_first_boxes-clause-lists
+returns-in_err-push_first_boxes-clause-lists g c = IfOk-from_err _ _ c.from_residual-in_err-push_first_boxes.ensures.0
+
+pub returns-in_err-push_first_boxes-clause-grown : goal.returns-in_err-push_first_boxes-clause-grown
+returns-in_err-push_first_boxes-clause-grown g c = IfOk-from_err _ _ c.from_residual-in_err-push_first_boxes.ensures.0
+
+pub returns-in_err-push_boxes-clause-lists : goal.returns-in_err-push_boxes-clause-lists
+returns-in_err-push_boxes-clause-lists g c = IfOk-from_err _ _ c.from_residual-in_err-push_boxes.ensures.0
+
+pub returns-in_err-push_boxes-clause-grown : goal.returns-in_err-push_boxes-clause-grown
+returns-in_err-push_boxes-clause-grown g c = IfOk-from_err _ _ c.from_residual-in_err-push_boxes.ensures.0

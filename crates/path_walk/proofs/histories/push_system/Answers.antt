@@ -1,3 +1,4 @@
+use Rattle.std.proofs.lemmas.Result.{IfOk-from_err}
 use Rattle.path_walk.proofs.histories.push_system.Goals as goal
 
 pub returns-in_err-push-in-Ok-clause-serves : goal.returns-in_err-push-in-Ok-clause-serves
@@ -35,3 +36,9 @@ returns-in-Err-OutOfMemory-clause-keeps g c = c.own_system.ensures.keeps
 
 pub returns-in-Err-OutOfMemory-clause-counts : goal.returns-in-Err-OutOfMemory-clause-counts
 returns-in-Err-OutOfMemory-clause-counts g c = c.own_system.ensures.counts
+
+pub returns-in_err-push-in-Ok-clause-history : goal.returns-in_err-push-in-Ok-clause-history
+returns-in_err-push-in-Ok-clause-history g c = IfOk-from_err _ _ c.from_residual.ensures.0
+
+pub returns-in_err-push-in-Ok-clause-grown : goal.returns-in_err-push-in-Ok-clause-grown
+returns-in_err-push-in-Ok-clause-grown g c = IfOk-from_err _ _ c.from_residual.ensures.0

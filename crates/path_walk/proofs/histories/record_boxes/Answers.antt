@@ -1,4 +1,5 @@
 use Rattle.std.proofs.Common.{sym, ◌∙◌}
+use Rattle.std.proofs.lemmas.Result.{IfOk-from_err}
 use Rattle.path_walk.specs.Problems.{case_in}
 use Rattle.path_walk.proofs.HistoryLaws.{boxes-first}
 use Rattle.path_walk.proofs.histories.record_boxes.Goals as goal
@@ -33,3 +34,12 @@ returns-clause-keeps g c = c.first_boxes.ensures.keeps
 
 pub returns-clause-counts : goal.returns-clause-counts
 returns-clause-counts g c = c.first_boxes.ensures.counts
+
+pub returns-in_err-try_clone-clause-boxes : goal.returns-in_err-try_clone-clause-boxes
+returns-in_err-try_clone-clause-boxes g c = IfOk-from_err _ _ c.from_residual.ensures.0
+
+pub returns-in_err-boxes-clause-boxes : goal.returns-in_err-boxes-clause-boxes
+returns-in_err-boxes-clause-boxes g c = IfOk-from_err _ _ c.from_residual-in_err-boxes.ensures.0
+
+pub returns-in_err-new-clause-boxes : goal.returns-in_err-new-clause-boxes
+returns-in_err-new-clause-boxes g c = IfOk-from_err _ _ c.from_residual-in_err-new.ensures.0

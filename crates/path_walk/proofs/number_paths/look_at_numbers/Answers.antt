@@ -1,4 +1,5 @@
 use Rattle.std.proofs.Common.{List, sym, subst}
+use Rattle.std.proofs.lemmas.Result.{IfOk-from_err}
 use Rattle.edit_line.specs.Lines.{HaveShape}
 use Rattle.edit_line.specs.Reductions.{lines_of}
 use Rattle.edit_line.specs.declared.derived.Derived.{Derived}
@@ -27,3 +28,12 @@ returns-clause-keeps g c = c.look_at_path.ensures.keeps
 
 pub returns-clause-counts : goal.returns-clause-counts
 returns-clause-counts g c = c.look_at_path.ensures.counts
+
+pub returns-in_err-look_at_path-clause-passed : goal.returns-in_err-look_at_path-clause-passed
+returns-in_err-look_at_path-clause-passed g c = IfOk-from_err _ _ c.from_residual.ensures.0
+
+pub returns-in_err-look_at_path-clause-look : goal.returns-in_err-look_at_path-clause-look
+returns-in_err-look_at_path-clause-look g c = IfOk-from_err _ _ c.from_residual.ensures.0
+
+pub returns-in_err-look_at_path-clause-kept : goal.returns-in_err-look_at_path-clause-kept
+returns-in_err-look_at_path-clause-kept g c = IfOk-from_err _ _ c.from_residual.ensures.0

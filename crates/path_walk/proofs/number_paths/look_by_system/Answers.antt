@@ -1,4 +1,5 @@
 use Rattle.std.proofs.Common.{◌≤◌, Bool, ℕ, List, length, ◌∙◌, subst}
+use Rattle.std.proofs.lemmas.Result.{IfOk-from_err}
 use Rattle.edit_paths.proofs.KeptLines.{all-over}
 use Rattle.path_walk.specs.Problems.{case_in}
 use Rattle.path_walk.proofs.NumberPathLaws.{lines-made, numbers-boxes}
@@ -19,3 +20,12 @@ returns-in-Ok-clause-basis c = λ is_open.
       c.in_ok-new-in-Ok.ensures.ok ∙ c.from_vec.ensures ∙ numbers-boxes (case_in c.args.problem.now) c.args.path.now c.lines-lines.result.now
           c.in-Ok.boxes.items c.requires.fit made c.in-Ok.ensures.exact,
     )
+
+pub returns-in_err-new-in-Ok-clause-work : goal.returns-in_err-new-in-Ok-clause-work
+returns-in_err-new-in-Ok-clause-work c = IfOk-from_err _ _ c.from_residual.ensures.0
+
+pub returns-in_err-new-in-Ok-clause-state : goal.returns-in_err-new-in-Ok-clause-state
+returns-in_err-new-in-Ok-clause-state c = IfOk-from_err _ _ c.from_residual.ensures.0
+
+pub returns-in_err-new-in-Ok-clause-basis : goal.returns-in_err-new-in-Ok-clause-basis
+returns-in_err-new-in-Ok-clause-basis c = IfOk-from_err _ _ c.from_residual.ensures.0

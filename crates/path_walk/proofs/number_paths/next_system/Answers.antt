@@ -1,6 +1,7 @@
 use Rattle.std.proofs.Common.{List, subst, sym, ◌∙◌, ◌≡◌, true, ℕ}
 use Rattle.edit_model.specs.FieldSets.{set_of}
 use Rattle.std.specs.Arc.{arc_value}
+use Rattle.std.proofs.lemmas.Result.{IfOk-from_err}
 use Rattle.linear_elim.specs.declared.held.Held.{Held}
 use Rattle.path_walk.specs.Bases.{IsPathSystem}
 use Rattle.path_walk.specs.Problems.{case_in}
@@ -45,3 +46,15 @@ returns-in-Err-clause-keeps g c = c.changed_system.ensures.keeps
 
 pub returns-in-Err-clause-counts : goal.returns-in-Err-clause-counts
 returns-in-Err-clause-counts g c = c.changed_system.ensures.counts
+
+pub returns-in_err-share-clause-system : goal.returns-in_err-share-clause-system
+returns-in_err-share-clause-system g c = IfOk-from_err _ _ c.from_residual.ensures.0
+
+pub returns-in_err-share-clause-kept : goal.returns-in_err-share-clause-kept
+returns-in_err-share-clause-kept g c = IfOk-from_err _ _ c.from_residual.ensures.0
+
+pub returns-in_err-in_arc-in-Ok-clause-system : goal.returns-in_err-in_arc-in-Ok-clause-system
+returns-in_err-in_arc-in-Ok-clause-system g c = IfOk-from_err _ _ c.from_residual-in_err-in_arc-in-Ok.ensures.0
+
+pub returns-in_err-in_arc-in-Ok-clause-kept : goal.returns-in_err-in_arc-in-Ok-clause-kept
+returns-in_err-in_arc-in-Ok-clause-kept g c = IfOk-from_err _ _ c.from_residual-in_err-in_arc-in-Ok.ensures.0

@@ -3,6 +3,7 @@ use Rattle.std.specs.List.{Any}
 use Rattle.std.specs.List.Sorted.{IsPermutation}
 use Rattle.std.proofs.lemmas.List.{length-map}
 use Rattle.std.proofs.lemmas.List.Sorted.{IsNonDecreasingBy-from_sort_by_key}
+use Rattle.std.proofs.lemmas.Result.{IfOk-from_err}
 use Rattle.ticket_row.specs.Tickets.{DrawnBelow, SeatState}
 use Rattle.foundation.specs.declared.memory.OutOfMemory.{OutOfMemory}
 use Rattle.donor_book.specs.Passes.{IsWhole}
@@ -86,3 +87,30 @@ returns g c =
       classes = classes-answered _ shared is ran all count drawn all_drawn pieces same sorted wins many whole legal.0 legal.1 joins history made
           (c.args.tickets.seats ≡ 1) (λ one. as_many ∙ one);
     }
+
+pub returns-in_err-workers-clause-pieces : goal.returns-in_err-workers-clause-pieces
+returns-in_err-workers-clause-pieces g c = IfOk-from_err _ _ c.from_residual.ensures.0
+
+pub returns-in_err-workers-clause-history : goal.returns-in_err-workers-clause-history
+returns-in_err-workers-clause-history g c = IfOk-from_err _ _ c.from_residual.ensures.0
+
+pub returns-in_err-workers-clause-classes : goal.returns-in_err-workers-clause-classes
+returns-in_err-workers-clause-classes g c = IfOk-from_err _ _ c.from_residual.ensures.0
+
+pub returns-in_err-seats-clause-pieces : goal.returns-in_err-seats-clause-pieces
+returns-in_err-seats-clause-pieces g c = IfOk-from_err _ _ c.from_residual-in_err-seats.ensures.0
+
+pub returns-in_err-seats-clause-history : goal.returns-in_err-seats-clause-history
+returns-in_err-seats-clause-history g c = IfOk-from_err _ _ c.from_residual-in_err-seats.ensures.0
+
+pub returns-in_err-seats-clause-classes : goal.returns-in_err-seats-clause-classes
+returns-in_err-seats-clause-classes g c = IfOk-from_err _ _ c.from_residual-in_err-seats.ensures.0
+
+pub returns-in_err-history-clause-pieces : goal.returns-in_err-history-clause-pieces
+returns-in_err-history-clause-pieces g c = IfOk-from_err _ _ c.from_residual-in_err-history.ensures.0
+
+pub returns-in_err-history-clause-history : goal.returns-in_err-history-clause-history
+returns-in_err-history-clause-history g c = IfOk-from_err _ _ c.from_residual-in_err-history.ensures.0
+
+pub returns-in_err-history-clause-classes : goal.returns-in_err-history-clause-classes
+returns-in_err-history-clause-classes g c = IfOk-from_err _ _ c.from_residual-in_err-history.ensures.0

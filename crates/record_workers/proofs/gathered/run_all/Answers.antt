@@ -1,4 +1,5 @@
 use Rattle.std.proofs.Common.{◌≡◌, ◌<◌, ◌∙◌, ℕ, IfOk, length, subst, sym}
+use Rattle.std.proofs.lemmas.Result.{IfOk-from_err}
 use Rattle.record_workers.specs.Workers.{AnswersInClasses, last_class}
 use Rattle.record_workers.proofs.gathered.run_all.Goals as goal
 
@@ -28,3 +29,15 @@ pub returns-clause-classes : goal.returns-clause-classes
 returns-clause-classes g c =
     subst (λ (n : ℕ). AnswersInClasses c.args.shared.books.terms.limit (last_class c.args.shared) (n ≡ 1) c.in_ok-pieces.pieces.items
     c.in_ok-pieces.history.items) (sym c.requires.seats) c.in_ok-pieces.ensures.classes
+
+pub returns-in_err-pieces-clause-rest : goal.returns-in_err-pieces-clause-rest
+returns-in_err-pieces-clause-rest g c = IfOk-from_err _ _ c.from_residual.ensures.0
+
+pub returns-in_err-pieces-clause-pieces : goal.returns-in_err-pieces-clause-pieces
+returns-in_err-pieces-clause-pieces g c = IfOk-from_err _ _ c.from_residual.ensures.0
+
+pub returns-in_err-pieces-clause-history : goal.returns-in_err-pieces-clause-history
+returns-in_err-pieces-clause-history g c = IfOk-from_err _ _ c.from_residual.ensures.0
+
+pub returns-in_err-pieces-clause-classes : goal.returns-in_err-pieces-clause-classes
+returns-in_err-pieces-clause-classes g c = IfOk-from_err _ _ c.from_residual.ensures.0

@@ -1,3 +1,4 @@
+use Rattle.std.proofs.lemmas.Result.{IfOk-from_err}
 use Rattle.record_workers.specs.declared.worker.Worker.{Worker}
 use Rattle.record_workers.proofs.MoveLaws.{flat-moved, map-moved}
 use Rattle.record_workers.proofs.parts.parts_of.Goals as goal
@@ -16,3 +17,12 @@ loop-worker-preserved c =
       passes = map-moved c.in-Some.worker left rest is loop.parts.passes.items parts.passes.items _ (λ (w : Worker). w.pass) added.passes all.passes;
       pieces = flat-moved c.in-Some.worker left rest is loop.parts.pieces.items parts.pieces.items _ (λ (w : Worker). w.pieces.items) added.pieces all.pieces;
     }
+
+pub returns-in_err-add-clause-seats : goal.returns-in_err-add-clause-seats
+returns-in_err-add-clause-seats c = IfOk-from_err _ _ c.from_residual.ensures.0
+
+pub returns-in_err-add-clause-passes : goal.returns-in_err-add-clause-passes
+returns-in_err-add-clause-passes c = IfOk-from_err _ _ c.from_residual.ensures.0
+
+pub returns-in_err-add-clause-pieces : goal.returns-in_err-add-clause-pieces
+returns-in_err-add-clause-pieces c = IfOk-from_err _ _ c.from_residual.ensures.0

@@ -1,4 +1,5 @@
 use Rattle.std.proofs.Common.{◌∙◌, ◌++◌, ◌<◌, ℕ, List, [], ◌∷◌, ap, arith, length, length-append, subst, sym}
+use Rattle.std.proofs.lemmas.Result.{IfOk-from_err}
 use Rattle.ticket_row.specs.Tickets.{SeatState}
 use Rattle.record_pieces.specs.Rests.{rows_of}
 use Rattle.record_workers.proofs.DrawnLaws.{drawn-worked, ready-worked}
@@ -37,3 +38,9 @@ returns-in_err-work_on-clause-worked g c = c.work_on.ensures.worked
 
 pub returns-clause-worked : goal.returns-clause-worked
 returns-clause-worked g c = drawn-worked c.args.shared.now c.loop-row_no.self c.loop-row_no.invariant.worked c.draw.new.seat c.draw.ensures.row
+
+pub returns-in_err-work_on-clause-ended : goal.returns-in_err-work_on-clause-ended
+returns-in_err-work_on-clause-ended g c = IfOk-from_err _ _ c.from_residual.ensures.0
+
+pub returns-in_err-work_on-clause-found : goal.returns-in_err-work_on-clause-found
+returns-in_err-work_on-clause-found g c = IfOk-from_err _ _ c.from_residual.ensures.0

@@ -2,6 +2,7 @@ use Rattle.std.proofs.Common.{◌≡◌, ◌∙◌, ◌++◌, ℕ, List, [], ◌
 use Rattle.std.specs.List.{All}
 use Rattle.std.proofs.lemmas.List.{map-append}
 use Rattle.std.proofs.lemmas.List.Elements.{All-push}
+use Rattle.std.proofs.lemmas.Result.{IfOk-from_err}
 use Rattle.record_pieces.specs.Rests.{IsPieceIn, KeepsFor, rows_of}
 use Rattle.record_pieces.specs.declared.piece.Piece.{Piece}
 use Rattle.record_workers.specs.Workers.{AreClaimedIn, kept_by, last_class}
@@ -89,3 +90,9 @@ returns-clause-worked g c =
       places = c.claim_for.ensures.placed;
       kept = subst (All (KeepsFor rest keeps)) (sym items) kept;
     }
+
+pub returns-in_err-piece-clause-found : goal.returns-in_err-piece-clause-found
+returns-in_err-piece-clause-found g c = IfOk-from_err _ _ c.from_residual-in_err-piece.ensures.0
+
+pub returns-in_err-reserve-clause-found : goal.returns-in_err-reserve-clause-found
+returns-in_err-reserve-clause-found g c = IfOk-from_err _ _ c.from_residual.ensures.0
