@@ -3,6 +3,7 @@ use Rattle.std.proofs.Common.{get_or, length, map, slice_get, refl, sym, ap, ◌
 use Rattle.std.specs.List.{fold, position}
 use Rattle.std.proofs.lemmas.List.Quantifiers.{position-Some}
 use Rattle.std.proofs.lemmas.Option.{slice_get-get_or}
+use Rattle.std.proofs.lemmas.Bool.{ltb-false}
 use Rattle.edit_model.specs.Corrections.{path_order}
 use Rattle.edit_model.specs.FieldSets.{has_number}
 use Rattle.edit_model.specs.RowPoints.{code_in}
@@ -283,7 +284,7 @@ module _ (c : SearchCase) (is : IsCase c) (path : List Bool) (none : keeps_bad c
               → (if b then first_failing c path 0 lines else state_with_boxes c path lines (failing_from 0 lines c.row [])) ≡ ClosedBox k → (b : BoxFrom)
               × IsClosingBox k b
           by true less h = absurd (no_line 0 lines h)
-          by false less h = at_boxes lines made (grind (arith, less)) (failing_from 0 lines c.row []) refl h
+          by false less h = at_boxes lines made (ltb-false (length path) (number_count c) less) (failing_from 0 lines c.row []) refl h
 
       by_bad : (b : Bool) → b ≡ false → (if b then ClosedBad else state_with_system c path (system_of c.edits (changed_numbers c path))) ≡ ClosedBox k
           → (b : BoxFrom) × IsClosingBox k b

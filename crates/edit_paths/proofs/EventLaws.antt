@@ -3,6 +3,7 @@ use Rattle.std.proofs.Common.{Err, length, slice_get, slice_index_or, take, refl
 use Rattle.std.specs.List.{filter, fold, position}
 use Rattle.std.proofs.Math.Seq.{take-length, take-suc}
 use Rattle.std.proofs.lemmas.List.{get_or_append_left, get_or_past, length-take-le, nil_from_length}
+use Rattle.std.proofs.lemmas.Bool.{ltb-false, ltb-true}
 use Rattle.foundation.specs.Results.{◌>>=◌, fault_as}
 use Rattle.edit_model.specs.Corrections.{path_order}
 use Rattle.edit_line.specs.Boxes.{are_whole}
@@ -194,9 +195,9 @@ module _ (c : SearchCase) (before : List Bool) (b : Bool) (short : length before
           → IsFirstOverflow lines (slice_index_or (path_order c.survey.fields) (length before) 0) o.step
       by false kept few is lines made = absurd (cc (sym e ∙ ap (λ (fs : List ℕ). system_of c.edits fs) (child-kept c before b short kept) ∙ made))
       by true changed false is lines made =
-          absurd (cc (sym e ∙ ap (λ (fs : List ℕ). system_of c.edits fs) (child-numbers-same c before b short (grind (arith, is))) ∙ made))
+          absurd (cc (sym e ∙ ap (λ (fs : List ℕ). system_of c.edits fs) (child-numbers-same c before b short (ltb-false (length before) (number_count c) is)) ∙ made))
       by true changed true is lines made =
-          let few : length before < number_count c = grind (arith, is) in
+          let few : length before < number_count c = ltb-true (length before) (number_count c) is in
           let f = slice_index_or (number_fields (shape_of c.survey.fields)) (length before) 0 in
           subst (λ (g : ℕ). IsFirstOverflow lines g o.step) (same-field few)
           (step-overflows lines f o.step (stopped f (step_result lines f) (sym (child-system c before b short changed few lines made) ∙ e)))

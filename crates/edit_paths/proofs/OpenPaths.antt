@@ -4,6 +4,7 @@ use Rattle.std.specs.List.{filter, fold, position}
 use Rattle.std.specs.Ordering.{int_eq}
 use Rattle.std.proofs.lemmas.Bool.Decides.{Decides-eqb, Decides-int_eq}
 use Rattle.std.proofs.lemmas.List.{nil_from_length}
+use Rattle.std.proofs.lemmas.Bool.{ltb-true}
 use Rattle.foundation.specs.Results.{◌>>=◌, fault_as}
 use Rattle.fraction128.proofs.Signs.{same_cancel}
 use Rattle.fraction128.proofs.Whole.{swap_last}
@@ -187,7 +188,7 @@ module _ (c : SearchCase) (is : IsCase c) (path : List Bool) where
           by : (b : Bool) → nat_lt (length path) (number_count c) ≡ b
               → (if b then first_failing c path 0 lines else state_with_boxes c path lines (failing_from 0 lines c.row [])) ≡ Open → (q : Point) × Meets c q
               × AgreesAlong c path q
-          by true e h = absurd (grind (arith, e, all))
+          by true e h = absurd (omega (arith, ltb-true (length path) (number_count c) e, all))
           by false e h = at_boxes none lines made (failing_from 0 lines c.row []) refl h
 
       by_bad : (b : Bool) → keeps_bad c.survey.fields c.row path ≡ b

@@ -71,9 +71,5 @@ fn donors_of(alloc: Global, rows: usize, history: &[Entry]) -> Result<Vec<Option
 fn no_donors(alloc: Global, rows: usize) -> Result<Vec<Option<u32>>, OutOfMemory>
     ensures { IfOk result (λ donors. donors.items ≡ replicate rows None) }
 {
-    let mut donors = Vec::with_capacity(alloc, rows)?;
-    for _ in 0..rows {
-        donors.push(None)?;
-    }
-    Ok(donors)
+    Ok(vec![in alloc; None; rows]?)
 }

@@ -70,7 +70,7 @@ pub fn piece_of<F: Fn(u32, &Value, &Value) -> u64, S: Systems, L: Ledger>(
 
 /// What a record asks of the donors once its search has ended: its class, and the donors of this class that
 /// it ranks, the nearest first. The ranking is None where it needs no donor. Both become part of its piece.
-#[derive(Debug, Drop)]
+#[derive(Drop)]
 struct Wish {
     class: u32,
     ranking: Option<Sequence<u32>>,

@@ -78,3 +78,18 @@ returns-in-Err-Test-clause-says g c =
     (arc_value rest.edits) c.args.row.now rest.budget c.args.change.path c.args.change.weight c.args.change.cert c.without_values-in-Err-Test.result
     c.case_known.ensures.case c.requires.found
     (c.requires.rest.same c.args.row.now) c.without_values-in-Err-Test.ensures.outcome c.without_values-in-Err-Test.ensures.none.1
+
+pub returns-in-Ok-clause-change : goal.returns-in-Ok-clause-change
+returns-in-Ok-clause-change g c = c.proof_of.ensures.outcome
+
+pub returns-in-Err-Bound-clause-change : goal.returns-in-Err-Bound-clause-change
+returns-in-Err-Bound-clause-change g c = c.without_values.ensures.outcome
+
+pub returns-in-Err-Bound-clause-donor : goal.returns-in-Err-Bound-clause-donor
+returns-in-Err-Bound-clause-donor g c = c.without_values.ensures.none.0
+
+pub returns-in-Err-Test-clause-change : goal.returns-in-Err-Test-clause-change
+returns-in-Err-Test-clause-change g c = c.without_values-in-Err-Test.ensures.outcome
+
+pub returns-in-Err-Test-clause-donor : goal.returns-in-Err-Test-clause-donor
+returns-in-Err-Test-clause-donor g c = c.without_values-in-Err-Test.ensures.none.0

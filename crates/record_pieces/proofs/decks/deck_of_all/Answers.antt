@@ -1,4 +1,5 @@
 use Rattle.std.proofs.Common.{◌≡◌, ◌∙◌, ◌<◌, ◌++◌, ℕ, zero, suc, List, [], ◌∷◌, None, ap, arith, get_or, length, refl, subst, sym}
+use Rattle.std.proofs.lemmas.Result.{IfOk-from_err}
 use Rattle.edit_model.specs.Parts.{SurveyParts}
 use Rattle.edit_model.specs.declared.value.Value.{Value}
 use Rattle.donor_search.specs.Decks.{DeckParts}
@@ -21,3 +22,9 @@ returns c plain =
     let items : c.push.new.self.items ≡ deck ∷ [] = c.in_ok-push.ensures.items ∙ ap (λ (ds : List DeckParts). ds ++ deck ∷ []) c.new-decks.ensures.items in
     subst (AreDecksOf c.args.survey.now c.args.sheet.now.rows None) (sym items)
     (deck-alone c.args.survey.now c.args.sheet.now.rows deck (record { donors = made.clean; give = made.measurable; index = made.index plain }))
+
+pub returns-in_err-new : goal.returns-in_err-new
+returns-in_err-new c = IfOk-from_err _ _ c.from_residual.ensures.0
+
+pub returns-in_err-push : goal.returns-in_err-push
+returns-in_err-push c = IfOk-from_err _ _ c.from_residual-in_err-push.ensures.0

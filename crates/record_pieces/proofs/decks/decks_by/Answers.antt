@@ -1,6 +1,7 @@
 use Rattle.std.proofs.Common.{◌≡◌, ◌⊎◌, ◌∙◌, ◌<◌, ◌≤◌, ◌+◌, ◌++◌, ℕ, List, [], ◌∷◌, Some, ap, arith, get_or, inl, inr, length, subst, sym}
 use Rattle.std.proofs.lemmas.Bool.{cases_lt}
 use Rattle.std.proofs.lemmas.List.{get_or_append_left, get_or_push, length_push}
+use Rattle.std.proofs.lemmas.Result.{IfOk-from_err}
 use Rattle.edit_model.specs.Parts.{SurveyParts}
 use Rattle.edit_model.specs.declared.value.Value.{Value}
 use Rattle.donor_search.specs.Decks.{DeckParts}
@@ -41,3 +42,15 @@ loop-code-preserved c =
           (deck-more survey rows field code old deck c.loop-code.invariant.as_many (c.loop-code.invariant.each plain)
           (record { donors = made.of_class ∙ of-code survey rows field code below; give = made.measurable; index = made.index plain }) class d lt);
     }
+
+pub returns-in_err-of : goal.returns-in_err-of
+returns-in_err-of c = IfOk-from_err _ _ c.from_residual.ensures.0
+
+pub returns-in_err-marks : goal.returns-in_err-marks
+returns-in_err-marks c = IfOk-from_err _ _ c.from_residual-in_err-marks.ensures.0
+
+pub returns-in_err-of_class : goal.returns-in_err-of_class
+returns-in_err-of_class c = IfOk-from_err _ _ c.from_residual-in_err-of_class.ensures.0
+
+pub returns-in_err-push : goal.returns-in_err-push
+returns-in_err-push c = IfOk-from_err _ _ c.from_residual-in_err-push.ensures.0

@@ -2,6 +2,7 @@ use Rattle.std.proofs.Common.{◌≡◌, ◌==◌, ◌∙◌, ℕ, false, Bool, 
 use Rattle.std.proofs.lemmas.Bool.{false_from_ne_true}
 use Rattle.std.proofs.lemmas.Bool.Decides.{Decides-eqb}
 use Rattle.std.proofs.lemmas.List.Elements.{All-from_recursion}
+use Rattle.std.proofs.lemmas.Result.{IfOk-from_err}
 use Rattle.bound_cert.specs.Paths.{kept_set}
 use Rattle.edit_model.specs.PlainNumbers.{HasPlainNumbers}
 use Rattle.edit_model.specs.declared.value.Value.{Value}
@@ -62,3 +63,12 @@ returns g c =
       donors = subst (All (IsDonorIn rest.survey (rows_in rest) (class_field_in rest) c.class_kept-class.result)) (sym c.from_vec.ensures)
           c.in_ok-ranking.ensures.donors;
     }
+
+pub returns-in_err-ranking-clause-class : goal.returns-in_err-ranking-clause-class
+returns-in_err-ranking-clause-class g c = IfOk-from_err _ _ c.from_residual.ensures.0
+
+pub returns-in_err-ranking-clause-ranking : goal.returns-in_err-ranking-clause-ranking
+returns-in_err-ranking-clause-ranking g c = IfOk-from_err _ _ c.from_residual.ensures.0
+
+pub returns-in_err-ranking-clause-donors : goal.returns-in_err-ranking-clause-donors
+returns-in_err-ranking-clause-donors g c = IfOk-from_err _ _ c.from_residual.ensures.0
