@@ -1,5 +1,6 @@
 use Rattle.std.proofs.Common.{◌≡◌, ◌↔◌, ◌==◌, inl, inr, ℕ, suc, ◌≤◌, Bool, true, false, if◌then◌else◌, List, [], ◌∷◌, Option, Some, None, Result, Ok, Err}
 use Rattle.std.proofs.Common.{nat_lt, length, slice_get, refl, sym, ap, ◌∙◌, subst, arith}
+use Rattle.std.proofs.lemmas.Bool.{ltb-false}
 use Rattle.std.specs.List.{fold, position}
 use Rattle.edit_model.specs.Points.{Point}
 use Rattle.edit_model.specs.RowPoints.{code_in}
@@ -183,7 +184,7 @@ module _ (c : SearchCase) (is : IsCase c) (path : List Bool) where
           by : (b : Bool) → nat_lt (length path) (number_count c) ≡ b
               → is_closed (if b then first_failing c path 0 lines else state_with_boxes c path lines (failing_from 0 lines c.row [])) ≡ true → ⊥
           by true e h = no-line none lines made q meets agrees h
-          by false e h = at_boxes none lines made (grind (arith, e)) (failing_from 0 lines c.row []) refl h
+          by false e h = at_boxes none lines made (ltb-false (length path) (number_count c) e) (failing_from 0 lines c.row []) refl h
 
       by_bad : (b : Bool) → keeps_bad c.survey.fields c.row path ≡ b
           → is_closed (if b then ClosedBad else state_with_system c path (system_of c.edits (changed_numbers c path))) ≡ true → ⊥

@@ -6,7 +6,7 @@
 //! them. In contracts, `serves` has the edits whose systems it gives, and `keeps` the sets of fields whose
 //! systems it keeps. `KeepsChange` says that at a change it keeps the system of the changed numerical
 //! fields. `outcome_of` has the outcome that `edit_paths` defines.
-ghost use Rattle.std.specs.Prelude.{◌≡◌, ◌≤◌, ℕ, IfOk, true};
+ghost use Rattle.std.specs.Prelude.{◌≡◌, ◌≤◌, ℕ, IfOk, OnOk, true};
 ghost use Rattle.std.specs.Arc.{arc_value};
 ghost use Rattle.std.specs.List.{AllByRecursion};
 ghost use Rattle.edit_line.specs.EditSets.{EditsParts};
@@ -17,10 +17,13 @@ ghost use Rattle.edit_paths.specs.Certificates.{certificate_of};
 ghost use Rattle.edit_paths.specs.Outcomes.{end_by, outcome_of};
 ghost use Rattle.edit_paths.specs.Answers.{Certifies, ChoosesFirst, ChoosesLeast, FindsChange, IsBudgetEnough};
 ghost use Rattle.edit_paths.specs.Answers.{NoneMeets, ShowsContradiction};
+ghost use Rattle.edit_paths.specs.ReachedPaths.{AreInOrder, is_before};
+ghost use Rattle.edit_paths.specs.Walks.{ends_after};
+ghost use Rattle.path_walk.specs.Looks.{IsLook};
 ghost use Rattle.path_walk.specs.Problems.{IsProblem, case_in, edits_in};
 ghost use Rattle.localise_tree.specs.KeptFields.{KeepsChange};
-ghost use Rattle.localise_tree.specs.inner.Nodes.{IsNode};
-ghost use Rattle.localise_tree.specs.inner.Takens.{IsTaken, taken_for, taken_paths};
+ghost use Rattle.localise_tree.specs.inner.Nodes.{IsNode, StayKept, paths_of};
+ghost use Rattle.localise_tree.specs.inner.Takens.{HasTaken, IsTaken, taken_for, taken_paths};
 
 use crate::all_kept::find_unchanged;
 use crate::certificates::certificate;
@@ -32,8 +35,9 @@ use edit_model::{Row, Survey};
 use edit_paths::{PathState, case_known};
 use foundation::{OutOfMemory, Steps};
 use linear_elim::Systems;
-use path_walk::{Basis, Problem, field_count, look_into};
+use path_walk::{Basis, Look, Problem, field_count, look_into};
 use std::alloc::Global;
+use std::collections::VecDeque;
 use std::sync::Arc;
 use std::sync::ledger::Ledger;
 
@@ -167,23 +171,54 @@ fn search<S: Systems, L: Ledger>(
                 work: spent,
             });
         };
-        let state = look.state;
         spent += look.work;
-        let reached = Reached { node: &node, state };
+        let reached = Reached {
+            node: &node,
+            state: look.state,
+        };
         if let Some(outcome) = end_by(alloc, source, problem, &taken, reached, steps)? {
             return Ok(outcome);
         }
-        let basis = look.kept_basis(&mut room)?;
-        lead_on(alloc, problem, &mut ends, &node, look)?;
-        taken.push(Taken {
-            path: node.into_path(),
-            state,
-            basis,
-        })?;
+        take_up(alloc, problem, &mut ends, &mut taken, &mut room, node, look)?;
     }
     Ok(Outcome::Contradictory {
         cert: certificate(alloc, source, problem, &taken, steps)?,
     })
+}
+
+// Takes the node's path, with which the search goes on: the paths to which it leads are put among the ends, and
+// the path stands behind those that were taken, with the look's basis, if there is room for that.
+fn take_up(
+    alloc: Global,
+    problem: &Problem,
+    ends: &mut VecDeque<Node>,
+    taken: &mut Vec<Taken>,
+    room: &mut usize,
+    node: Node,
+    look: Look,
+) -> Result<(), OutOfMemory>
+    requires problem { IsProblem problem.now }
+    requires node { IsNode (case_in problem.now) node }
+    requires look { IsLook (case_in problem.now) node.path look }
+    requires ends { AllByRecursion (IsNode (case_in problem.now)) ends.old.items }
+    requires order { AreInOrder (is_before (case_in problem.now).survey.fields) (paths_of ends.old.items) }
+    ensures paths { OnOk result
+        (paths_of ends.new.items ≡ ends_after (case_in problem.now) node.path (paths_of ends.old.items)) }
+    ensures nodes { OnOk result (AllByRecursion (IsNode (case_in problem.now)) ends.new.items) }
+    ensures kept { OnOk result
+        (StayKept (case_in problem.now) node.path look.state ends.old.items ends.new.items) }
+    ensures taken { OnOk result
+        (HasTaken (case_in problem.now) node.path look.state taken.old.items taken.new.items) }
+{
+    let state = look.state;
+    let basis = look.kept_basis(room)?;
+    lead_on(alloc, problem, ends, &node, look)?;
+    taken.push(Taken {
+        path: node.into_path(),
+        state,
+        basis,
+    })?;
+    Ok(())
 }
 
 // The outcome by which the path `end` ends the search, as its state says. A number leaves the range there, or

@@ -3,6 +3,7 @@ use Rattle.std.proofs.Common.{◌++◌, Option, Some, None, Result, Ok, Err, IfO
 use Rattle.std.proofs.Common.{arith}
 use Rattle.std.specs.List.{fold, list_any}
 use Rattle.std.proofs.lemmas.Bool.Decides.{Decides-eqb}
+use Rattle.std.proofs.lemmas.Bool.{le-ltb}
 use Rattle.fraction128.specs.declared.fraction.Fraction.{Fraction}
 use Rattle.edit_model.specs.Corrections.{path_order}
 use Rattle.edit_model.specs.RowPoints.{code_in}
@@ -64,7 +65,7 @@ record HasBoxes (c : SearchCase) (path : List Bool) (lines : List Derived) (boxe
 
 module _ (c : SearchCase) (path : List Bool) (enough : number_count c ≤ length path) where
   late : nat_lt (length path) (number_count c) ≡ false
-  late = grind (arith, enough)
+  late = le-ltb (length path) (number_count c) enough
 
   open-boxes : IsOpen c path → (lines : List Derived) × (boxes : List BoxFrom) × HasBoxes c path lines boxes
   open-boxes is_open = by_bad (keeps_bad c.survey.fields c.row path) refl is_open

@@ -2,6 +2,7 @@ use Rattle.std.proofs.Common.{◌≡◌, ◌≢◌, ◌-◌, ◌<◌, ◌≤◌,
 use Rattle.std.proofs.Common.{Result, Ok, Err, length, refl, sym, ◌∙◌, arith}
 use Rattle.std.specs.List.{fold, position}
 use Rattle.std.proofs.lemmas.Bool.Decides.{Decides-eqb}
+use Rattle.std.proofs.lemmas.Bool.{ltb-false, ltb-true}
 use Rattle.edit_line.specs.Boxes.{are_whole}
 use Rattle.edit_line.specs.Shapes.{shape_of}
 use Rattle.edit_line.specs.Sums.{fails_at}
@@ -67,7 +68,7 @@ module _ (c : SearchCase) (path : List Bool) where
     where
       at : (few all : Bool) (lines : List Derived) (r : Result (List BoxFrom) LineFault) → nat_lt (length path) (number_count c) ≡ few
           → (length path == number_count c) ≡ all → by_tests few all lines r ≡ ClosedLine i → ⊥
-      at true all lines r few_is all_is h = absurd (grind (arith, few_is, long))
+      at true all lines r few_is all_is h = absurd (omega (arith, ltb-true (length path) (number_count c) few_is, long))
       at false true lines r few_is all_is h = absurd (omega (arith, long, (Decides-eqb (length path) (number_count c)).0 all_is))
       at false false lines (Err fault) few_is all_is h = cc h
       at false false lines (Ok boxes) few_is all_is h =
@@ -99,7 +100,7 @@ module _ (c : SearchCase) (path : List Bool) where
   leads-to state levels is lists = by (nat_lt (number_count c) (length path)) refl
     where
       by : (b : Bool) → nat_lt (number_count c) (length path) ≡ b → LeadTo c path state levels
-      by true e = let long : number_count c < length path = grind
-          (arith, e) in record { line = λ i s. absurd (line-short i (is ∙ s) long); box = λ i s. (lists.boxes long).lists }
-      by false e = let short : length path ≤ number_count c = grind
-          (arith, e) in record { line = λ i s. lists.lines short; box = λ i s. absurd (box-long i (is ∙ s) short) }
+      by true e = let long = ltb-true (number_count c) (length path) e in
+          record { line = λ i s. absurd (line-short i (is ∙ s) long); box = λ i s. (lists.boxes long).lists }
+      by false e = let short = ltb-false (number_count c) (length path) e in
+          record { line = λ i s. lists.lines short; box = λ i s. absurd (box-long i (is ∙ s) short) }

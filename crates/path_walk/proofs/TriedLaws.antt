@@ -2,6 +2,7 @@ use Rattle.std.proofs.Common.{◌≡◌, ◌≢◌, ◌==◌, ◌&&◌, ◌||◌
 use Rattle.std.proofs.Common.{◌++◌, ℤ, pos, length, slice_index_or, Result, Ok, Err, refl, sym, ap, ◌∙◌, subst, arith}
 use Rattle.std.specs.Ordering.{int_eq}
 use Rattle.std.proofs.lemmas.List.{length-take-le}
+use Rattle.std.proofs.lemmas.Bool.{ltb-false}
 use Rattle.edit_line.specs.Boxes.{are_whole}
 use Rattle.edit_line.specs.Lines.{HasShape, LineParts}
 use Rattle.edit_line.specs.Shapes.{Domain, number_fields, shape_of}
@@ -59,7 +60,7 @@ module _ (c : SearchCase) (path : List Bool) where
           → (if b then first_failing c path 0 lines else state_with_boxes c path lines (failing_from 0 lines c.row [])) ≡ Open
           → first_failing c path 0 lines ≡ Open
       at_few true few opened = opened
-      at_few false few opened = absurd (grind (arith, few, short))
+      at_few false few opened = absurd (omega (arith, ltb-false (length path) (number_count c) few, short))
 
       at_system : (r : Result (List Derived) SystemOverflow) → r ≡ Ok lines → state_with_system c path r ≡ Open → first_failing c path 0 lines ≡ Open
       at_system r is opened = at_few (nat_lt (length path) (number_count c)) refl (subst (λ s. state_with_system c path s ≡ Open) is opened)

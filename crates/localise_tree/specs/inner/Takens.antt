@@ -1,4 +1,4 @@
-use Rattle.std.specs.Prelude.{◌≡◌, ◌≤◌, ◌++◌, ◌-◌, ℕ, Bool, List, [], if◌then◌else◌, length, map, nat_lt}
+use Rattle.std.specs.Prelude.{◌≡◌, ◌≤◌, ◌++◌, ◌-◌, ℕ, Bool, List, [], ◌∷◌, Option, if◌then◌else◌, length, map, nat_lt}
 use Rattle.bound_cert.specs.declared.cert.Leaf.{Leaf}
 use Rattle.edit_paths.specs.Cases.{SearchCase}
 use Rattle.edit_paths.specs.Certificates.{leaves_by, leaves_from}
@@ -7,6 +7,7 @@ use Rattle.edit_paths.specs.States.{state_of}
 use Rattle.edit_paths.specs.declared.levels.Level.{Level}
 use Rattle.edit_paths.specs.declared.state.PathState.{PathState}
 use Rattle.path_walk.specs.Bases.{IsKnownBasis}
+use Rattle.path_walk.specs.declared.looks.Basis.{Basis}
 use Rattle.path_walk.specs.inner.Histories.{LeadTo}
 use Rattle.localise_tree.specs.declared.best_first.Taken.{Taken}
 
@@ -15,6 +16,11 @@ pub record IsTaken (c : SearchCase) (taken : Taken) : Type 0 where
   pub fit : length taken.path ≤ field_count c
   pub state : taken.state ≡ state_of c taken.path
   pub basis : IsKnownBasis c taken.path taken.basis
+
+-- the path was taken last, and has this state; what is kept of it is its basis
+abbrev pub HasTaken : SearchCase → List Bool → PathState → List Taken → List Taken → Type 0
+HasTaken c path state before after = (basis : Option Basis) × IsKnownBasis c path basis
+    × (after ≡ before ++ record { path = path; state = state; basis = basis } ∷ [])
 
 -- the paths that were taken
 abbrev pub taken_paths : List Taken → List (List Bool)

@@ -10,7 +10,7 @@ use Rattle.path_walk.specs.declared.looks.Look.{Look}
 use Rattle.localise_tree.specs.declared.best_first.Taken.{Taken}
 use Rattle.localise_tree.specs.inner.Takens.{IsTaken, taken_paths}
 use Rattle.localise_tree.proofs.PlaceLaws.{rest-order}
-use Rattle.localise_tree.proofs.SearchLaws.{change-kept, first-kept, first-node, kept-basis, kept-later, none-is, none-of, path-later}
+use Rattle.localise_tree.proofs.SearchLaws.{change-kept, first-kept, first-node, kept-later, none-is, none-of, path-later}
 use Rattle.localise_tree.proofs.SearchLaws.{run-budget, run-ends, run-less, run-turn}
 use Rattle.localise_tree.proofs.best_first.search.Goals as goal
 
@@ -43,7 +43,7 @@ loop-node-smaller g c =
     × (look.work ≤ c.args.budget - c.loop-node.spent))) c.in-Some-2.is c.in_ok-look.ensures.look in
     run-less (case_in c.args.problem.now) c.args.budget c.loop-node.spent c.loop-node.taken.items c.loop-node.ends.items c.take_first.new.ends.items
     c.in-Some.node c.loop-node.invariant.0 c.in-Some.ensures.some c.in-Some-2.look.work c.in-Some-2.look.state c.deref.result.now c.in_ok-outcome.field-0
-    look.0.work look.1 look.0.state c.deref.ensures.value c.in_ok-outcome.ensures.end c.lead_on.new.ends.items c.in_ok-lead_on.ensures.paths
+    look.0.work look.1 look.0.state c.deref.ensures.value c.in_ok-outcome.ensures.end c.take_up.new.ends.items c.in_ok-take_up.ensures.paths
 
 pub loop-node-preserved : goal.loop-node-preserved
 loop-node-preserved g c =
@@ -55,13 +55,10 @@ loop-node-preserved g c =
     c.in-Some.node c.in-Some.ensures.some c.loop-node.invariant.1).1 in (
       run-turn (case_in c.args.problem.now) c.args.budget c.loop-node.spent c.loop-node.taken.items c.loop-node.ends.items c.take_first.new.ends.items
           c.in-Some.node c.loop-node.invariant.0 c.in-Some.ensures.some c.in-Some-2.look.work c.in-Some-2.look.state c.deref.result.now c.in_ok-outcome.field-0
-          look.0.work look.1 look.0.state c.deref.ensures.value c.in_ok-outcome.ensures.end c.lead_on.new.ends.items c.in_ok-lead_on.ensures.paths
-          (none-is c.in_ok-outcome.field-0 c.in_default-3.not-Some) c.in_ok-lead_on.ensures.nodes c.in_ok-basis.basis
-          (kept-basis (case_in c.args.problem.now) c.in-Some.node.path c.in-Some-2.look c.loop-node.room c.kept_basis.new.room c.in_ok-basis.basis look.0
-          c.in_ok-basis.ensures) c.push.new.self.items
-          (c.in_ok-push.ensures.items ∙ ap (λ (p : List Bool). c.loop-node.taken.items
-          ++ record { path = p; state = c.in-Some-2.look.state; basis = c.in_ok-basis.basis } ∷ []) c.into_path-in-Some.ensures),
-      c.in_ok-lead_on.ensures.kept (g.S.Systems.keeps c.end_by.new.source)
+          look.0.work look.1 look.0.state c.deref.ensures.value c.in_ok-outcome.ensures.end c.take_up.new.ends.items c.in_ok-take_up.ensures.paths
+          (none-is c.in_ok-outcome.field-0 c.in_default-3.not-Some) c.in_ok-take_up.ensures.nodes c.in_ok-take_up.ensures.taken.0
+          c.in_ok-take_up.ensures.taken.1 c.take_up.new.taken.items c.in_ok-take_up.ensures.taken.2,
+      c.in_ok-take_up.ensures.kept (g.S.Systems.keeps c.end_by.new.source)
           (λ opened. path-later (case_in c.args.problem.now) (g.S.Systems.keeps c.look_into.new.source) (g.S.Systems.keeps c.end_by.new.source)
           c.in-Some.node.path c.in_ok-outcome.ensures.keeps (kept opened))
           (kept-later (case_in c.args.problem.now) (g.S.Systems.keeps c.loop-node.source) (g.S.Systems.keeps c.end_by.new.source)
@@ -71,8 +68,8 @@ loop-node-preserved g c =
       omega (arith, c.loop-node.invariant.4, c.in_ok-look.ensures.counts, c.in_ok-outcome.ensures.counts),
     )
 
-pub lead_on-requires-clause-order : goal.lead_on-requires-clause-order
-lead_on-requires-clause-order g c =
+pub take_up-requires-clause-order : goal.take_up-requires-clause-order
+take_up-requires-clause-order g c =
     rest-order (case_in c.args.problem.now) c.loop-node.ends.items c.take_first.new.ends.items c.in-Some.node c.in-Some.ensures.some
     c.loop-node.invariant.0.searching.sorted
 
@@ -105,18 +102,18 @@ end_by-requires-clause-node g c =
     (first-node (case_in c.args.problem.now) c.loop-node.ends.items c.take_first.new.ends.items c.in-Some.node c.in-Some.ensures.some
     c.loop-node.invariant.0.nodes).0
 
-pub lead_on-requires-clause-node : goal.lead_on-requires-clause-node
-lead_on-requires-clause-node g c =
+pub take_up-requires-clause-node : goal.take_up-requires-clause-node
+take_up-requires-clause-node g c =
     (first-node (case_in c.args.problem.now) c.loop-node.ends.items c.take_first.new.ends.items c.in-Some.node c.in-Some.ensures.some
     c.loop-node.invariant.0.nodes).0
 
-pub lead_on-requires-clause-look : goal.lead_on-requires-clause-look
-lead_on-requires-clause-look g c =
+pub take_up-requires-clause-look : goal.take_up-requires-clause-look
+take_up-requires-clause-look g c =
     (subst (λ (o : Option Look). IfSome o (λ look. IsLook (case_in c.args.problem.now) c.in-Some.node.path look
     × (look.work ≤ c.args.budget - c.loop-node.spent))) c.in-Some-2.is c.in_ok-look.ensures.look).0
 
-pub lead_on-requires-clause-ends : goal.lead_on-requires-clause-ends
-lead_on-requires-clause-ends g c =
+pub take_up-requires-clause-ends : goal.take_up-requires-clause-ends
+take_up-requires-clause-ends g c =
     (first-node (case_in c.args.problem.now) c.loop-node.ends.items c.take_first.new.ends.items c.in-Some.node c.in-Some.ensures.some
     c.loop-node.invariant.0.nodes).1
 
@@ -158,36 +155,16 @@ returns-in-Some-3-clause-keeps g c f h = c.end_by.ensures.keeps f (c.look_into.e
 pub returns-in-Some-3-clause-counts : goal.returns-in-Some-3-clause-counts
 returns-in-Some-3-clause-counts g c = omega (arith, c.first_end.ensures.counts, c.loop-node.invariant.4, c.look_into.ensures.counts, c.end_by.ensures.counts)
 
-pub returns-in_err-basis-clause-serves : goal.returns-in_err-basis-clause-serves
-returns-in_err-basis-clause-serves g c e h =
+pub returns-in_err-take_up-clause-serves : goal.returns-in_err-take_up-clause-serves
+returns-in_err-take_up-clause-serves g c e h =
     c.end_by.ensures.serves e (c.look_into.ensures.serves e (c.loop-node.invariant.2 e (c.first_end.ensures.serves e h)))
 
-pub returns-in_err-basis-clause-keeps : goal.returns-in_err-basis-clause-keeps
-returns-in_err-basis-clause-keeps g c f h = c.end_by.ensures.keeps f (c.look_into.ensures.keeps f (c.loop-node.invariant.3 f (c.first_end.ensures.keeps f h)))
+pub returns-in_err-take_up-clause-keeps : goal.returns-in_err-take_up-clause-keeps
+returns-in_err-take_up-clause-keeps g c f h = c.end_by.ensures.keeps f (c.look_into.ensures.keeps f (c.loop-node.invariant.3 f (c.first_end.ensures.keeps f h)))
 
-pub returns-in_err-basis-clause-counts : goal.returns-in_err-basis-clause-counts
-returns-in_err-basis-clause-counts g c = omega (arith, c.first_end.ensures.counts, c.loop-node.invariant.4, c.look_into.ensures.counts, c.end_by.ensures.counts)
-
-pub returns-in_err-lead_on-clause-serves : goal.returns-in_err-lead_on-clause-serves
-returns-in_err-lead_on-clause-serves g c e h =
-    c.end_by.ensures.serves e (c.look_into.ensures.serves e (c.loop-node.invariant.2 e (c.first_end.ensures.serves e h)))
-
-pub returns-in_err-lead_on-clause-keeps : goal.returns-in_err-lead_on-clause-keeps
-returns-in_err-lead_on-clause-keeps g c f h = c.end_by.ensures.keeps f (c.look_into.ensures.keeps f (c.loop-node.invariant.3 f (c.first_end.ensures.keeps f h)))
-
-pub returns-in_err-lead_on-clause-counts : goal.returns-in_err-lead_on-clause-counts
-returns-in_err-lead_on-clause-counts g c =
+pub returns-in_err-take_up-clause-counts : goal.returns-in_err-take_up-clause-counts
+returns-in_err-take_up-clause-counts g c =
     omega (arith, c.first_end.ensures.counts, c.loop-node.invariant.4, c.look_into.ensures.counts, c.end_by.ensures.counts)
-
-pub returns-in_err-push-clause-serves : goal.returns-in_err-push-clause-serves
-returns-in_err-push-clause-serves g c e h =
-    c.end_by.ensures.serves e (c.look_into.ensures.serves e (c.loop-node.invariant.2 e (c.first_end.ensures.serves e h)))
-
-pub returns-in_err-push-clause-keeps : goal.returns-in_err-push-clause-keeps
-returns-in_err-push-clause-keeps g c f h = c.end_by.ensures.keeps f (c.look_into.ensures.keeps f (c.loop-node.invariant.3 f (c.first_end.ensures.keeps f h)))
-
-pub returns-in_err-push-clause-counts : goal.returns-in_err-push-clause-counts
-returns-in_err-push-clause-counts g c = omega (arith, c.first_end.ensures.counts, c.loop-node.invariant.4, c.look_into.ensures.counts, c.end_by.ensures.counts)
 
 pub returns-in_err-certificate-clause-serves : goal.returns-in_err-certificate-clause-serves
 returns-in_err-certificate-clause-serves g c e h = c.certificate.ensures.serves e (c.loop-node.invariant.2 e (c.first_end.ensures.serves e h))
@@ -238,23 +215,11 @@ returns-in_err-outcome-clause-exact g c = IfOk-from_err _ _ c.from_residual-in_e
 pub returns-in_err-outcome-clause-kept : goal.returns-in_err-outcome-clause-kept
 returns-in_err-outcome-clause-kept g c = IfOk-from_err _ _ c.from_residual-in_err-outcome.ensures.0
 
-pub returns-in_err-basis-clause-exact : goal.returns-in_err-basis-clause-exact
-returns-in_err-basis-clause-exact g c = IfOk-from_err _ _ c.from_residual-in_err-basis.ensures.0
+pub returns-in_err-take_up-clause-exact : goal.returns-in_err-take_up-clause-exact
+returns-in_err-take_up-clause-exact g c = IfOk-from_err _ _ c.from_residual-in_err-take_up.ensures.0
 
-pub returns-in_err-basis-clause-kept : goal.returns-in_err-basis-clause-kept
-returns-in_err-basis-clause-kept g c = IfOk-from_err _ _ c.from_residual-in_err-basis.ensures.0
-
-pub returns-in_err-lead_on-clause-exact : goal.returns-in_err-lead_on-clause-exact
-returns-in_err-lead_on-clause-exact g c = IfOk-from_err _ _ c.from_residual-in_err-lead_on.ensures.0
-
-pub returns-in_err-lead_on-clause-kept : goal.returns-in_err-lead_on-clause-kept
-returns-in_err-lead_on-clause-kept g c = IfOk-from_err _ _ c.from_residual-in_err-lead_on.ensures.0
-
-pub returns-in_err-push-clause-exact : goal.returns-in_err-push-clause-exact
-returns-in_err-push-clause-exact g c = IfOk-from_err _ _ c.from_residual-in_err-push.ensures.0
-
-pub returns-in_err-push-clause-kept : goal.returns-in_err-push-clause-kept
-returns-in_err-push-clause-kept g c = IfOk-from_err _ _ c.from_residual-in_err-push.ensures.0
+pub returns-in_err-take_up-clause-kept : goal.returns-in_err-take_up-clause-kept
+returns-in_err-take_up-clause-kept g c = IfOk-from_err _ _ c.from_residual-in_err-take_up.ensures.0
 
 pub returns-in_err-certificate-clause-exact : goal.returns-in_err-certificate-clause-exact
 returns-in_err-certificate-clause-exact g c = IfOk-from_err _ _ c.from_residual-in_err-certificate.ensures.0
