@@ -1,4 +1,4 @@
-use Rattle.std.proofs.Common.{ℕ, ◌≤◌, ◌∙◌, List, All, length, subst, sym}
+use Rattle.std.proofs.Common.{ℕ, ◌≤◌, ◌∙◌, List, All, arith, length, refl, subst, sym}
 use Rattle.foundation.specs.Limits.{most_near}
 use Rattle.donor_book.specs.Passes.{IsAnswered}
 use Rattle.class_books.specs.ClassPasses.{class_at, pass_in}
@@ -7,6 +7,17 @@ use Rattle.record_workers.specs.Workers.{last_class}
 use Rattle.record_workers.proofs.AskedLaws.{asked-after, placed-after}
 use Rattle.record_workers.proofs.BookLaws.{class-own, donors-own, not-last, ranks-few}
 use Rattle.record_workers.proofs.worker.claim_for.Goals as goal
+
+pub returns-then-piece-last-clause-asked : goal.returns-then-piece-last-clause-asked
+returns-then-piece-last-clause-asked g c =
+    let same = c.if-piece-last.true in
+    record { own = λ lt. absurd (omega (arith, lt, same, c.last.ensures)); others = λ class lt apart. refl }
+
+pub claim-requires-clause-classes : goal.claim-requires-clause-classes
+claim-requires-clause-classes g c = c.requires.classes
+
+pub returns-in-Some-clause-classes : goal.returns-in-Some-clause-classes
+returns-in-Some-clause-classes g c = c.claim.ensures.classes
 
 pub claim-requires-clause-few : goal.claim-requires-clause-few
 claim-requires-clause-few g c =
