@@ -195,7 +195,8 @@ module _ (c : SearchCase) (before : List Bool) (b : Bool) (short : length before
           → IsFirstOverflow lines (slice_index_or (path_order c.survey.fields) (length before) 0) o.step
       by false kept few is lines made = absurd (cc (sym e ∙ ap (λ (fs : List ℕ). system_of c.edits fs) (child-kept c before b short kept) ∙ made))
       by true changed false is lines made =
-          absurd (cc (sym e ∙ ap (λ (fs : List ℕ). system_of c.edits fs) (child-numbers-same c before b short (ltb-false (length before) (number_count c) is)) ∙ made))
+          let many = ltb-false (length before) (number_count c) is in
+          absurd (cc (sym e ∙ ap (λ (fs : List ℕ). system_of c.edits fs) (child-numbers-same c before b short many) ∙ made))
       by true changed true is lines made =
           let few : length before < number_count c = ltb-true (length before) (number_count c) is in
           let f = slice_index_or (number_fields (shape_of c.survey.fields)) (length before) 0 in
