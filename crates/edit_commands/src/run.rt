@@ -21,6 +21,7 @@ ghost use Rattle.run_parts.specs.Commands.{HasReleased};
 ghost use Rattle.run_parts.specs.Readings.{AnswersDue, IsCheckDue, IsDue, IsRulesDue};
 ghost use Rattle.rules_command.specs.RulesRun.{IsRuled, IsRulesComplete, IsRulesStopped};
 ghost use Rattle.run_parts.specs.Run.{IsRefused, ran, word_refusals};
+ghost use Rattle.edit_commands.specs.inner.Runs.{RunsAs, TellsUsage};
 
 use crate::asked::{Asked, read_words};
 use check_command::run_check;
@@ -151,14 +152,32 @@ pub fn fh_main<R: Threads + Wait + Sync, D: Desk, P: Printer, G: Gate>(
     ensures make_complete { ForMake words.now (λ ask. IsMakeComplete result (ran D.Desk P.Printer desk printer)) }
 {
     match read_words(alloc, words) {
-        Ok(Asked::Edit(edit)) => run_edit(rt, alloc, &edit, desk, printer, gate),
-        Ok(Asked::Classed(classed)) => run_classed(rt, alloc, &classed, desk, printer, gate),
-        Ok(Asked::Check(check)) => run_check(alloc, &check, desk, printer),
-        Ok(Asked::Rules(rules)) => run_rules(alloc, &rules, desk, printer),
-        Ok(Asked::Fill(fill)) => run_fill(alloc, &fill, desk, printer),
-        Ok(Asked::Panel(panel)) => run_panel(alloc, &panel, desk, printer),
-        Ok(Asked::Make(make)) => run_make(alloc, &make, desk, printer),
-        Ok(Asked::Nothing) => refuse(printer, USAGE, Status::Usage),
+        Ok(asked) => run_asked(rt, alloc, &asked, desk, printer, gate),
         Err(OutOfMemory) => refuse(printer, OUT_OF_MEMORY, Status::OutOfMemory),
+    }
+}
+
+// Runs the command that was asked for, and answers the status of its run. Where none was, it prints that,
+// and answers `Usage`. In the contract, `RunsAs` says of each command what its run does.
+fn run_asked<R: Threads + Wait + Sync, D: Desk, P: Printer, G: Gate>(
+    rt: &R,
+    alloc: Global,
+    asked: &Asked,
+    desk: &mut D,
+    printer: &mut P,
+    gate: &G,
+) -> Status
+    ensures usage { TellsUsage asked.now result }
+    ensures run { RunsAs asked.now result (ran D.Desk P.Printer desk printer) }
+{
+    match asked {
+        Asked::Edit(edit) => run_edit(rt, alloc, edit, desk, printer, gate),
+        Asked::Classed(classed) => run_classed(rt, alloc, classed, desk, printer, gate),
+        Asked::Check(check) => run_check(alloc, check, desk, printer),
+        Asked::Rules(rules) => run_rules(alloc, rules, desk, printer),
+        Asked::Fill(fill) => run_fill(alloc, fill, desk, printer),
+        Asked::Panel(panel) => run_panel(alloc, panel, desk, printer),
+        Asked::Make(make) => run_make(alloc, make, desk, printer),
+        Asked::Nothing => refuse(printer, USAGE, Status::Usage),
     }
 }
