@@ -8,10 +8,11 @@ use Rattle.run_parts.specs.Faults.{IsOfStores, fault_status}
 use Rattle.run_parts.specs.Limits.{most_bytes}
 use Rattle.run_parts.specs.Parts.{IsOfRecords, IsOfRules, RefusesRecords, RefusesRules}
 use Rattle.run_parts.specs.Readings.{AnswersDue, HoldsRecords, HoldsRules}
-use Rattle.run_parts.specs.Run.{AreCallsTo}
+use Rattle.run_parts.specs.Run.{AreCallsTo, faults_by}
 use Rattle.run_parts.specs.declared.fault.Fault.{Fault}
 use Rattle.run_parts.specs.declared.fault.Fault.TheVariants as fault
 use Rattle.run_parts.specs.declared.status.Status.{Status}
+use Rattle.run_parts.specs.declared.status.Status.TheVariants as status
 use Rattle.run_parts.proofs.CallLaws.{input-calls}
 use Rattle.run_parts.proofs.HeldLaws.{not_longer, not_unread, not_unread_records, one_survey, weaker}
 use Rattle.run_parts.proofs.InputLaws.{IsBeside, read-beside, records-refuse, rules-refuse-input, stores-refuse}
@@ -101,6 +102,13 @@ class-calls fields class rules records (fault.Class name) why = refl
 class-calls fields class rules records fault.OutOfMemory why = (1, refl)
 class-calls fields class rules records f why = absurd why
 
+-- the count of faults, which a refusal of the class field leaves as it was
+pub class-faults : (fields : List Field) (class : Option (List ℕ)) (f : Fault) (before : ℕ) {now : ℕ} → now ≡ before → RefusesClass fields class f
+    → now ≡ faults_by f before
+class-faults fields class (fault.Class name) before same why = same
+class-faults fields class fault.OutOfMemory before same why = same
+class-faults fields class f before same why = absurd why
+
 -- ---- causes
 
 module _ (rules records : List ℕ) (files : Option Files) where
@@ -150,6 +158,14 @@ module _ (rules records : List ℕ) (class : Option (List ℕ)) (files : Option 
       → IfSome files (λ o. AnswersDue (IsEitherDue rules records class o) (fault_status f))
   told-rules-due f kind why =
       each-told files (λ o because. rules_answer rules records o class f kind because) (where-told files (λ o. RefusesRules rules o f) why)
+
+  -- where memory was refused, a status that is due need not be answered
+  pub told-memory-due : IfSome files (λ o. AnswersDue (IsEitherDue rules records class o) status.OutOfMemory)
+  told-memory-due = by files
+    where
+      by : (told : Option Files) → IfSome told (λ o. AnswersDue (IsEitherDue rules records class o) status.OutOfMemory)
+      by None = tt
+      by (Some o) = λ s due. inr (inr refl)
 
   module _ (survey : SurveyParts) (hr : HoldsRules files rules survey) where
     told-rules : IfSome files (λ o. HoldsRules (Some o) rules survey)

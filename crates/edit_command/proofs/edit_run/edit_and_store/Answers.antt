@@ -1,4 +1,4 @@
-use Rattle.std.proofs.Common.{◌≡◌, ◌∷◌, [], List, Ok, IfSome, option_copied, subst, sym}
+use Rattle.std.proofs.Common.{◌≡◌, ◌∙◌, ◌∷◌, [], List, Ok, IfSome, ap, option_copied, subst, sym}
 use Rattle.edit_desk.specs.Desk.{Asked, PutsOnRecord, Told, fetched, stored}
 use Rattle.edit_release.specs.Releases.{IsReleaseOf, written_in}
 use Rattle.command_words.specs.Asked.{EditAsked}
@@ -13,14 +13,14 @@ use Rattle.run_parts.specs.Commands.{Leaves}
 use Rattle.run_parts.specs.Faults.{fault_status}
 use Rattle.run_parts.specs.Parts.{store_calls}
 use Rattle.run_parts.specs.Readings.{AnswersDue}
-use Rattle.run_parts.specs.Run.{AreCallsTo}
+use Rattle.run_parts.specs.Run.{AreCallsTo, faults_by}
 use Rattle.run_parts.specs.declared.fault.Fault.TheVariants as fault
 use Rattle.run_parts.proofs.CallLaws.{all-calls, behind-calls, less-calls, of-stores}
 use Rattle.run_parts.proofs.CommandLaws.{stores-done, stores-stopped}
 use Rattle.run_parts.proofs.ToldLaws.{handed}
 use Rattle.edit_command.proofs.ClassLaws.{class_within}
 use Rattle.edit_command.proofs.EndLaws.{editing}
-use Rattle.edit_command.proofs.InputLaws.{either-calls, of-either, stores-either, stores-refuse-either, told-read-due}
+use Rattle.edit_command.proofs.InputLaws.{either-calls, of-either, stores-either, stores-refuse-either, told-memory-due, told-read-due}
 use Rattle.edit_command.proofs.RunLaws.{either-unstored}
 use Rattle.edit_command.proofs.WrittenLaws.{own-names}
 use Rattle.edit_command.proofs.edit_run.edit_and_store.Goals as goal
@@ -36,7 +36,13 @@ reads_in w = fetched w.rules.now ∷ fetched w.records.now ∷ []
 abbrev stores_in : Inside → List Asked
 stores_in w = stored w.proof.now ∷ stored w.reasons.now ∷ stored w.released.now ∷ []
 
--- ---- the class field is one of the fields
+-- ---- what was read, and the class field, which is one of the fields
+
+pub release_of-requires-clause-read : goal.release_of-requires-clause-read
+release_of-requires-clause-read g c κs within = c.in_ok-input.ensures.sheet
+
+pub release_of-requires-clause-plain : goal.release_of-requires-clause-plain
+release_of-requires-clause-plain g c κs within = c.in_ok-input.ensures.plain
 
 pub release_of-requires-clause-field : goal.release_of-requires-clause-field
 release_of-requires-clause-field g c κs within =
@@ -48,6 +54,22 @@ pub returns-in_err-input-clause-kind : goal.returns-in_err-input-clause-kind
 returns-in_err-input-clause-kind g c =
     rw (handed c.from_residual.result _ c.from_residual.ensures.1)
     (of-either (option_copied c.args.class) c.in_err-input.field-0.0 c.in_err-input.ensures.kind)
+
+pub returns-in_err-input-clause-cause : goal.returns-in_err-input-clause-cause
+returns-in_err-input-clause-cause g c =
+    let f = c.in_err-input.field-0.0 in
+    let before = g.D.Desk.files c.args.desk.now in
+    rw (handed c.from_residual.result _ c.from_residual.ensures.1)
+    (subst (λ (a : EditAsked). RefusesEither a.names.rules a.names.records (option_copied c.args.class) before f) c.asked.view_is
+    c.in_err-input.ensures.cause)
+
+pub returns-in_err-input-clause-due : goal.returns-in_err-input-clause-due
+returns-in_err-input-clause-due g c =
+    let f = c.in_err-input.field-0.0 in
+    let before = g.D.Desk.files c.args.desk.now in
+    rw (handed c.from_residual.result _ c.from_residual.ensures.1)
+    (subst (λ (a : EditAsked). IfSome before (λ o. AnswersDue (IsEitherDue a.names.rules a.names.records (option_copied c.args.class) o) (fault_status f)))
+    c.asked.view_is c.in_err-input.ensures.due)
 
 pub returns-in_err-input-clause-files : goal.returns-in_err-input-clause-files
 returns-in_err-input-clause-files g c =
@@ -66,7 +88,30 @@ returns-in_err-input-clause-asked g c =
     (λ calls h. either-calls (option_copied c.args.class) w.rules.now w.records.now (stores_in w) calls f c.in_err-input.ensures.kind h)
     c.in_err-input.ensures.asked))
 
+pub returns-in_err-input-clause-faults : goal.returns-in_err-input-clause-faults
+returns-in_err-input-clause-faults g c = rw (handed c.from_residual.result _ c.from_residual.ensures.1) c.in_err-input.ensures.faults
+
 -- ---- memory is refused as the records are edited
+
+pub returns-in_default-clause-kind : goal.returns-in_default-clause-kind
+returns-in_default-clause-kind g c = rw c.out_of_memory.ensures (stores-either (option_copied c.args.class) fault.OutOfMemory tt)
+
+pub returns-in_default-clause-cause : goal.returns-in_default-clause-cause
+returns-in_default-clause-cause g c =
+    rw c.out_of_memory.ensures
+    (stores-refuse-either c.args.asked.now.names.rules c.args.asked.now.names.records (g.D.Desk.files c.args.desk.now) (option_copied c.args.class)
+    fault.OutOfMemory tt)
+
+pub returns-in_default-clause-due : goal.returns-in_default-clause-due
+returns-in_default-clause-due g c =
+    rw c.out_of_memory.ensures
+    (told-memory-due c.args.asked.now.names.rules c.args.asked.now.names.records (option_copied c.args.class) (g.D.Desk.files c.args.desk.now))
+
+pub returns-in_default-clause-files : goal.returns-in_default-clause-files
+returns-in_default-clause-files g c =
+    rw c.out_of_memory.ensures
+    (either-unstored (either_command c.args.asked.now (option_copied c.args.class)) (option_copied c.args.class) (g.D.Desk.files c.args.desk.now)
+    (g.D.Desk.files c.fetch_edit.new.desk) fault.OutOfMemory tt c.in_ok-input.ensures.unchanged)
 
 pub returns-in_default-clause-asked : goal.returns-in_default-clause-asked
 returns-in_default-clause-asked g c =
@@ -76,6 +121,9 @@ returns-in_default-clause-asked g c =
     (subst (λ (a : EditAsked). PutsOnRecord before (g.D.Desk.calls c.fetch_edit.new.desk) (AreCallsTo (edit_calls a) fault.OutOfMemory))
     c.asked.view_is
     (less-calls before _ (AreCallsTo (edit_calls (asked_in w)) fault.OutOfMemory) (λ x e. (2, e)) c.in_ok-input.ensures.asked))
+
+pub returns-in_default-clause-faults : goal.returns-in_default-clause-faults
+returns-in_default-clause-faults g c = rw c.out_of_memory.ensures c.in_ok-input.ensures.faults
 
 -- ---- a store ends in a fault
 
@@ -137,6 +185,11 @@ returns-in_err-store_release-clause-asked g c =
     (subst (λ (a : EditAsked). PutsOnRecord between after (AreCallsTo (store_calls (release_files a release)) f)) (sym c.asked.view_is)
     c.in_err-store_release.ensures.asked)))
 
+pub returns-in_err-store_release-clause-faults : goal.returns-in_err-store_release-clause-faults
+returns-in_err-store_release-clause-faults g c =
+    rw (handed c.from_residual-in_err-store_release.result _ c.from_residual-in_err-store_release.ensures.1)
+    (c.in_err-store_release.ensures.faults ∙ ap (faults_by c.in_err-store_release.field-0.0) c.in_ok-input.ensures.faults)
+
 -- ---- all was done
 
 pub returns-clause-due : goal.returns-clause-due
@@ -177,3 +230,6 @@ returns-clause-asked g c =
     (all-calls before _ _ (reads_in w) (stores_in w) c.in_ok-input.ensures.asked
     (subst (λ (a : EditAsked). PutsOnRecord between after (λ calls. calls ≡ store_calls (release_files a release))) (sym c.asked.view_is)
     c.in_ok-store_release.ensures.asked))
+
+pub returns-clause-faults : goal.returns-clause-faults
+returns-clause-faults g c = c.in_ok-store_release.ensures.faults ∙ c.in_ok-input.ensures.faults
