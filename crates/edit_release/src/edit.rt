@@ -6,6 +6,7 @@ ghost use Rattle.std.specs.Prelude.{◌≡◌, ◌<◌, ◌≤◌, ◌↔◌, �
 ghost use Rattle.std.specs.List.{AllByRecursion, AllZip};
 ghost use Rattle.donor_measure.specs.Measures.{Measures};
 ghost use Rattle.donor_measure.specs.Yardsticks.{yardsticks_of};
+ghost use Rattle.edit_line.specs.EditSets.{SayTheRules};
 ghost use Rattle.edit_model.specs.PlainNumbers.{HasPlainNumbers};
 ghost use Rattle.record_text.specs.Sheets.{IsSheet};
 ghost use Rattle.pruned_rules.specs.Pruned.{kept_edits, rule_verdicts};
@@ -19,6 +20,7 @@ use crate::proof::proof_file;
 use crate::release::Release;
 use crate::texts::ReleaseTexts;
 use donor_measure::Measure;
+use edit_line::Edits;
 use edit_model::{Survey, Value};
 use edit_report::RowEnd;
 use foundation::OutOfMemory;
@@ -60,12 +62,23 @@ pub fn edit_sheet<
     ensures guaranteed { IfOk result (HasGuarantee survey sheet terms) }
     ensures edit { IfOk result (IsReleaseOf survey sheet terms workers) }
 {
-    let pruned = prune_rules(alloc, &survey)?;
-    let edits = pruned.kept_edits(alloc, &survey)?;
+    let (edits, verdicts) = kept_rules(alloc, &survey)?;
     let edited = edit_records(
         rt, alloc, survey, edits, sheet, measure, terms, workers, gate,
     )?;
-    release_of(alloc, EditedSheet::of(edited), pruned.verdicts, terms)
+    release_of(alloc, EditedSheet::of(edited), verdicts, terms)
+}
+
+// The edits that the records are searched by, and the verdict on each line of the rules. A line that follows
+// from the others is dropped. Refused for want of memory alone.
+fn kept_rules(alloc: Global, survey: &Survey) -> Result<(Edits, Vec<Verdict>), OutOfMemory>
+    ensures edits { IfOk result (λ kept. kept.0 ≡ kept_edits survey.now) }
+    ensures same { IfOk result (λ kept. SayTheRules survey.now kept.0) }
+    ensures verdicts { IfOk result (λ kept. kept.1.items ≡ rule_verdicts survey.now) }
+{
+    let pruned = prune_rules(alloc, survey)?;
+    let edits = pruned.kept_edits(alloc, survey)?;
+    Ok((edits, pruned.verdicts))
 }
 
 // What is released of a sheet whose records are edited: the texts of all files and the summary. The verdicts

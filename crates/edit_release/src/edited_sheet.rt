@@ -41,4 +41,12 @@ impl EditedSheet {
             history,
         }
     }
+
+    /// What became of each record, and the claims of donors. The survey and the sheet are let go.
+    pub(crate) fn into_told(self) -> (Vec<RowEnd>, Vec<Entry>)
+        ensures ends { result.0 ≡ self.ends }
+        ensures history { result.1 ≡ self.history }
+    {
+        (self.ends, self.history)
+    }
 }

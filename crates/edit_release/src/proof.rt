@@ -34,7 +34,7 @@ pub(crate) fn proof_file(
     ensures sized { IfOk result (λ text.
         IsSized (shared_proof (proof_telling verdicts.items terms edited.ends.items edited.history.items))) }
 {
-    let EditedSheet { ends, history, .. } = edited;
+    let (ends, history) = edited.into_told();
     let proof = proof_of(alloc, verdicts, terms, ends, history)?;
     let proof = share_lines(alloc, proof)?;
     write_proof(alloc, &proof)
@@ -52,14 +52,16 @@ fn proof_of(
 ) -> Result<Proof, OutOfMemory>
     ensures { IfOk result (λ proof. proof ≡ proof_telling verdicts.items terms ends.items history.items) }
 {
+    let verdicts = refutations_of(alloc, verdicts)?;
+    let rows = row_proofs_of(alloc, ends)?;
     Ok(Proof {
         version: 1,
         limit: terms.limit,
         near: terms.near,
         budget: terms.budget,
-        verdicts: Sequence::from_vec(refutations_of(alloc, verdicts)?),
+        verdicts: Sequence::from_vec(verdicts),
         table: Sequence::from_vec(Vec::new(alloc)),
-        rows: Sequence::from_vec(row_proofs_of(alloc, ends)?),
+        rows: Sequence::from_vec(rows),
         claims: Sequence::from_vec(history),
     })
 }
