@@ -1,2 +1,3 @@
 pub mod DonationLaws
+pub mod ErrorLaws
 pub mod OrderLaws
