@@ -1,4 +1,4 @@
-use Rattle.std.proofs.Common.{◌≡◌, ◌∷◌, [], ◌++◌, List, IfSome, subst, sym}
+use Rattle.std.proofs.Common.{◌∙◌, ◌≡◌, ◌∷◌, [], ◌++◌, List, IfSome, subst, sym}
 use Rattle.edit_desk.specs.Desk.{Asked, PutsOnRecord, fetched}
 use Rattle.command_words.specs.Asked.{PanelAsked}
 use Rattle.command_words.specs.declared.panel_words.PanelWords.TheInside.{Inside}
@@ -18,6 +18,24 @@ abbrev asked_in : Inside → PanelAsked
 asked_in w = panel_of w.rules.now w.records.now w.last.now w.released.now w.reasons.now w.proof.now w.key.now w.budget
 
 -- ---- the rules are refused
+
+pub returns-in_err-survey-clause-held : goal.returns-in_err-survey-clause-held
+returns-in_err-survey-clause-held g c = rw (handed c.from_residual.result _ c.from_residual.ensures.1) tt
+
+pub returns-in_err-survey-clause-well_formed : goal.returns-in_err-survey-clause-well_formed
+returns-in_err-survey-clause-well_formed g c = rw (handed c.from_residual.result _ c.from_residual.ensures.1) tt
+
+pub returns-in_err-survey-clause-own : goal.returns-in_err-survey-clause-own
+returns-in_err-survey-clause-own g c = rw (handed c.from_residual.result _ c.from_residual.ensures.1) tt
+
+pub returns-in_err-survey-clause-last : goal.returns-in_err-survey-clause-last
+returns-in_err-survey-clause-last g c = rw (handed c.from_residual.result _ c.from_residual.ensures.1) tt
+
+pub returns-in_err-survey-clause-own_key : goal.returns-in_err-survey-clause-own_key
+returns-in_err-survey-clause-own_key g c = rw (handed c.from_residual.result _ c.from_residual.ensures.1) tt
+
+pub returns-in_err-survey-clause-last_key : goal.returns-in_err-survey-clause-last_key
+returns-in_err-survey-clause-last_key g c = rw (handed c.from_residual.result _ c.from_residual.ensures.1) tt
 
 pub returns-in_err-survey-clause-kind : goal.returns-in_err-survey-clause-kind
 returns-in_err-survey-clause-kind g c =
@@ -54,7 +72,31 @@ returns-in_err-survey-clause-asked g c =
     (λ calls h. rules-calls w.rules.now (fetched w.records.now ∷ fetched w.last.now ∷ []) calls f c.in_err-survey.ensures.kind h)
     c.in_err-survey.ensures.asked))
 
+pub returns-in_err-survey-clause-faults : goal.returns-in_err-survey-clause-faults
+returns-in_err-survey-clause-faults g c = rw (handed c.from_residual.result _ c.from_residual.ensures.1) c.in_err-survey.ensures.faults
+
+pub returns-in_err-survey-clause-unchanged : goal.returns-in_err-survey-clause-unchanged
+returns-in_err-survey-clause-unchanged g c = c.in_err-survey.ensures.unchanged
+
 -- ---- a file of rows is refused
+
+pub returns-in_err-rows-clause-held : goal.returns-in_err-rows-clause-held
+returns-in_err-rows-clause-held g c = rw (handed c.from_residual-in_err-rows.result _ c.from_residual-in_err-rows.ensures.1) tt
+
+pub returns-in_err-rows-clause-well_formed : goal.returns-in_err-rows-clause-well_formed
+returns-in_err-rows-clause-well_formed g c = rw (handed c.from_residual-in_err-rows.result _ c.from_residual-in_err-rows.ensures.1) tt
+
+pub returns-in_err-rows-clause-own : goal.returns-in_err-rows-clause-own
+returns-in_err-rows-clause-own g c = rw (handed c.from_residual-in_err-rows.result _ c.from_residual-in_err-rows.ensures.1) tt
+
+pub returns-in_err-rows-clause-last : goal.returns-in_err-rows-clause-last
+returns-in_err-rows-clause-last g c = rw (handed c.from_residual-in_err-rows.result _ c.from_residual-in_err-rows.ensures.1) tt
+
+pub returns-in_err-rows-clause-own_key : goal.returns-in_err-rows-clause-own_key
+returns-in_err-rows-clause-own_key g c = rw (handed c.from_residual-in_err-rows.result _ c.from_residual-in_err-rows.ensures.1) tt
+
+pub returns-in_err-rows-clause-last_key : goal.returns-in_err-rows-clause-last_key
+returns-in_err-rows-clause-last_key g c = rw (handed c.from_residual-in_err-rows.result _ c.from_residual-in_err-rows.ensures.1) tt
 
 pub returns-in_err-rows-clause-kind : goal.returns-in_err-rows-clause-kind
 returns-in_err-rows-clause-kind g c =
@@ -86,6 +128,9 @@ returns-in_err-rows-clause-faults g c =
     rw (handed c.from_residual-in_err-rows.result _ c.from_residual-in_err-rows.ensures.1)
     (rw c.in_ok-survey.ensures.faults at c.in_err-rows.ensures.faults)
 
+pub returns-in_err-rows-clause-unchanged : goal.returns-in_err-rows-clause-unchanged
+returns-in_err-rows-clause-unchanged g c = c.in_err-rows.ensures.unchanged ∙ c.in_ok-survey.ensures.unchanged
+
 -- ---- all was read
 
 pub returns-clause-asked : goal.returns-clause-asked
@@ -101,3 +146,27 @@ pub returns-clause-due : goal.returns-clause-due
 returns-clause-due g c =
     told-panel-due c.args.asked.now (g.D.Desk.files c.args.desk.now) _ (rw c.in_ok-survey.ensures.unchanged at c.in_ok-rows.ensures.held)
     status.Done
+
+pub returns-clause-held : goal.returns-clause-held
+returns-clause-held g c = rw c.in_ok-survey.ensures.unchanged at c.in_ok-rows.ensures.held
+
+pub returns-clause-well_formed : goal.returns-clause-well_formed
+returns-clause-well_formed g c = c.in_ok-survey.ensures.well_formed
+
+pub returns-clause-own : goal.returns-clause-own
+returns-clause-own g c = c.in_ok-rows.ensures.own
+
+pub returns-clause-last : goal.returns-clause-last
+returns-clause-last g c = c.in_ok-rows.ensures.last
+
+pub returns-clause-own_key : goal.returns-clause-own_key
+returns-clause-own_key g c = c.in_ok-rows.ensures.own_key
+
+pub returns-clause-last_key : goal.returns-clause-last_key
+returns-clause-last_key g c = c.in_ok-rows.ensures.last_key
+
+pub returns-clause-faults : goal.returns-clause-faults
+returns-clause-faults g c = c.in_ok-rows.ensures.faults ∙ c.in_ok-survey.ensures.faults
+
+pub returns-clause-unchanged : goal.returns-clause-unchanged
+returns-clause-unchanged g c = c.in_ok-rows.ensures.unchanged ∙ c.in_ok-survey.ensures.unchanged

@@ -26,6 +26,15 @@ returns-in_err-release-clause-asked g c =
     (λ calls h. panel-calls asked (stores_of asked) calls f c.in_err-release.ensures.kind h)
     c.in_err-release.ensures.asked)
 
+pub returns-in_err-release-clause-cause : goal.returns-in_err-release-clause-cause
+returns-in_err-release-clause-cause g c = rw (handed c.from_residual.result _ c.from_residual.ensures.1) c.in_err-release.ensures.cause
+
+pub returns-in_err-release-clause-due : goal.returns-in_err-release-clause-due
+returns-in_err-release-clause-due g c = rw (handed c.from_residual.result _ c.from_residual.ensures.1) c.in_err-release.ensures.due
+
+pub returns-in_err-release-clause-faults : goal.returns-in_err-release-clause-faults
+returns-in_err-release-clause-faults g c = rw (handed c.from_residual.result _ c.from_residual.ensures.1) c.in_err-release.ensures.faults
+
 -- ---- a store ends in a fault
 
 pub returns-in_err-store_release-clause-due : goal.returns-in_err-store_release-clause-due
@@ -73,3 +82,6 @@ returns-clause-asked g c =
     let asked = c.args.asked.now in
     all-calls (g.D.Desk.calls c.args.desk.now) _ _ (reads_of asked) (stores_of asked) c.in_ok-release.ensures.asked
     c.in_ok-store_release.ensures.asked
+
+pub returns-clause-faults : goal.returns-clause-faults
+returns-clause-faults g c = c.in_ok-store_release.ensures.faults ∙ c.in_ok-release.ensures.faults

@@ -35,3 +35,6 @@ pub returns-in-Err-clause-complete : goal.returns-in-Err-clause-complete
 returns-in-Err-clause-complete g c =
     panel_refused c.args.asked.now _ c.in-Err.refusal c.refuse.result (c.refuse.ensures.status ∙ c.status.ensures)
     c.in-Err.ensures.cause c.in-Err.ensures.faults
+
+pub returns-in-Err-clause-due : goal.returns-in-Err-clause-due
+returns-in-Err-clause-due g c = rw (c.refuse.ensures.status ∙ c.status.ensures) c.in-Err.ensures.due

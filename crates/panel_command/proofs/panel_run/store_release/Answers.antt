@@ -1,11 +1,11 @@
-use Rattle.std.proofs.Common.{◌∷◌, [], ◌++◌, List, Err, Result, subst}
+use Rattle.std.proofs.Common.{◌≡◌, ◌∙◌, ◌∷◌, [], ◌++◌, List, Err, Result, subst, ap}
 use Rattle.edit_desk.specs.Desk.{Asked, PutsOnRecord, stored}
 use Rattle.panel_release.specs.declared.release.PanelRelease.{PanelRelease}
 use Rattle.command_words.specs.Asked.{PanelAsked, panel_files_in}
 use Rattle.command_words.specs.declared.panel_words.PanelWords.TheInside.{Inside}
 use Rattle.command_words.specs.FileNames.{AreApart}
 use Rattle.panel_command.specs.PanelRun.{made_of}
-use Rattle.run_parts.specs.Run.{AreCallsTo}
+use Rattle.run_parts.specs.Run.{AreCallsTo, faults_by}
 use Rattle.run_parts.specs.Parts.{store_calls}
 use Rattle.run_parts.specs.declared.fault.Fault.{Fault}
 use Rattle.run_parts.proofs.CallLaws.{all-calls, behind-calls, calls-between, less-calls, of-stores}
@@ -35,6 +35,13 @@ reasons_call w = stored w.reasons.now ∷ []
 abbrev released_call : Inside → List Asked
 released_call w = stored w.released.now ∷ []
 
+pub returns-in_err-store_file-clause-kind : goal.returns-in_err-store_file-clause-kind
+returns-in_err-store_file-clause-kind g c =
+    rw (handed c.from_residual.result _ c.from_residual.ensures.1) c.in_err-store_file.ensures.kind
+
+pub returns-in_err-store_file-clause-written : goal.returns-in_err-store_file-clause-written
+returns-in_err-store_file-clause-written g c = rw (handed c.from_residual.result _ c.from_residual.ensures.1) tt
+
 pub returns-in_err-store_file-clause-files : goal.returns-in_err-store_file-clause-files
 returns-in_err-store_file-clause-files g c =
     let w = c.asked.inside in
@@ -54,6 +61,16 @@ returns-in_err-store_file-clause-asked g c =
     (less-calls before _ _
     (λ calls h. calls-between [] (proof_call w) (reasons_call w ++ released_call w) calls f (of-stores _ c.in_err-store_file.ensures.kind) h)
     c.in_err-store_file.ensures.asked))
+
+pub returns-in_err-store_file-clause-faults : goal.returns-in_err-store_file-clause-faults
+returns-in_err-store_file-clause-faults g c = rw (handed c.from_residual.result _ c.from_residual.ensures.1) c.in_err-store_file.ensures.faults
+
+pub returns-in_err-store_file-2-clause-kind : goal.returns-in_err-store_file-2-clause-kind
+returns-in_err-store_file-2-clause-kind g c =
+    rw (handed c.from_residual-in_err-store_file-2.result _ c.from_residual-in_err-store_file-2.ensures.1) c.in_err-store_file-2.ensures.kind
+
+pub returns-in_err-store_file-2-clause-written : goal.returns-in_err-store_file-2-clause-written
+returns-in_err-store_file-2-clause-written g c = rw (handed c.from_residual-in_err-store_file-2.result _ c.from_residual-in_err-store_file-2.ensures.1) tt
 
 pub returns-in_err-store_file-2-clause-files : goal.returns-in_err-store_file-2-clause-files
 returns-in_err-store_file-2-clause-files g c =
@@ -76,6 +93,19 @@ returns-in_err-store_file-2-clause-asked g c =
     (subst (λ (a : PanelAsked). PutsOnRecord before after (AreCallsTo (store_calls (made_of a c.args.release.now).files) f)) c.asked.view_is
     (behind-calls before _ _ (proof_call w) (reasons_call w) (released_call w) f (of-stores _ c.in_err-store_file-2.ensures.kind)
     c.in_ok-store_file.ensures.asked c.in_err-store_file-2.ensures.asked))
+
+pub returns-in_err-store_file-2-clause-faults : goal.returns-in_err-store_file-2-clause-faults
+returns-in_err-store_file-2-clause-faults g c =
+    rw (handed c.from_residual-in_err-store_file-2.result _ c.from_residual-in_err-store_file-2.ensures.1)
+    (c.in_err-store_file-2.ensures.faults
+    ∙ ap (faults_by c.in_err-store_file-2.field-0.0) c.in_ok-store_file.ensures.faults)
+
+pub returns-in_err-store_file-3-clause-kind : goal.returns-in_err-store_file-3-clause-kind
+returns-in_err-store_file-3-clause-kind g c =
+    rw (handed c.from_residual-in_err-store_file-3.result _ c.from_residual-in_err-store_file-3.ensures.1) c.in_err-store_file-3.ensures.kind
+
+pub returns-in_err-store_file-3-clause-written : goal.returns-in_err-store_file-3-clause-written
+returns-in_err-store_file-3-clause-written g c = rw (handed c.from_residual-in_err-store_file-3.result _ c.from_residual-in_err-store_file-3.ensures.1) tt
 
 pub returns-in_err-store_file-3-clause-files : goal.returns-in_err-store_file-3-clause-files
 returns-in_err-store_file-3-clause-files g c =
@@ -100,6 +130,12 @@ returns-in_err-store_file-3-clause-asked g c =
     (all-calls _ _ _ (proof_call w) (reasons_call w) c.in_ok-store_file.ensures.asked c.in_ok-store_file-2.ensures.asked)
     c.in_err-store_file-3.ensures.asked))
 
+pub returns-in_err-store_file-3-clause-faults : goal.returns-in_err-store_file-3-clause-faults
+returns-in_err-store_file-3-clause-faults g c =
+    rw (handed c.from_residual-in_err-store_file-3.result _ c.from_residual-in_err-store_file-3.ensures.1)
+    (c.in_err-store_file-3.ensures.faults
+    ∙ ap (faults_by c.in_err-store_file-3.field-0.0) (c.in_ok-store_file-2.ensures.faults ∙ c.in_ok-store_file.ensures.faults))
+
 pub returns-clause-files : goal.returns-clause-files
 returns-clause-files g c =
     let w = c.asked.inside in
@@ -117,3 +153,16 @@ returns-clause-written g c =
     let apart = subst (λ (a : PanelAsked). AreApart (panel_files_in a)) c.asked.view_is c.asked.invariant.0 in
     less-told (g.D.Desk.files c.args.desk.now) _ (λ x y all. stored-written (made_of asked release).files x y (own_names asked release apart) all)
     (returns-clause-files g c)
+
+pub returns-clause-asked : goal.returns-clause-asked
+returns-clause-asked g c =
+    let w = c.asked.inside in
+    let before = g.D.Desk.calls c.args.desk.now in
+    let after = g.D.Desk.calls c.store_file-3.new.desk in
+    subst (λ (a : PanelAsked). PutsOnRecord before after (λ calls. calls ≡ store_calls (made_of a c.args.release.now).files)) c.asked.view_is
+    (all-calls before _ _ (proof_call w ++ reasons_call w) (released_call w)
+    (all-calls _ _ _ (proof_call w) (reasons_call w) c.in_ok-store_file.ensures.asked c.in_ok-store_file-2.ensures.asked)
+    c.in_ok-store_file-3.ensures.asked)
+
+pub returns-clause-faults : goal.returns-clause-faults
+returns-clause-faults g c = c.in_ok-store_file-3.ensures.faults ∙ (c.in_ok-store_file-2.ensures.faults ∙ c.in_ok-store_file.ensures.faults)
