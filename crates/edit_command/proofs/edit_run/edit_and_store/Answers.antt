@@ -50,80 +50,55 @@ release_of-requires-clause-field g c κs within =
 
 -- ---- the rules, the class field or the records are refused
 
-pub returns-in_err-input-clause-kind : goal.returns-in_err-input-clause-kind
-returns-in_err-input-clause-kind g c =
-    rw (handed c.from_residual.result _ c.from_residual.ensures.1)
-    (of-either (option_copied c.args.class) c.in_err-input.field-0.0 c.in_err-input.ensures.kind)
-
-pub returns-in_err-input-clause-cause : goal.returns-in_err-input-clause-cause
-returns-in_err-input-clause-cause g c =
-    let f = c.in_err-input.field-0.0 in
-    let before = g.D.Desk.files c.args.desk.now in
-    rw (handed c.from_residual.result _ c.from_residual.ensures.1)
-    (subst (λ (a : EditAsked). RefusesEither a.names.rules a.names.records (option_copied c.args.class) before f) c.asked.view_is
-    c.in_err-input.ensures.cause)
-
-pub returns-in_err-input-clause-due : goal.returns-in_err-input-clause-due
-returns-in_err-input-clause-due g c =
-    let f = c.in_err-input.field-0.0 in
-    let before = g.D.Desk.files c.args.desk.now in
-    rw (handed c.from_residual.result _ c.from_residual.ensures.1)
-    (subst (λ (a : EditAsked). IfSome before (λ o. AnswersDue (IsEitherDue a.names.rules a.names.records (option_copied c.args.class) o) (fault_status f)))
-    c.asked.view_is c.in_err-input.ensures.due)
-
-pub returns-in_err-input-clause-files : goal.returns-in_err-input-clause-files
-returns-in_err-input-clause-files g c =
-    rw (handed c.from_residual.result _ c.from_residual.ensures.1)
-    (either-unstored (either_command c.args.asked.now (option_copied c.args.class)) (option_copied c.args.class) (g.D.Desk.files c.args.desk.now)
-    (g.D.Desk.files c.fetch_edit.new.desk) c.in_err-input.field-0.0 c.in_err-input.ensures.kind c.in_err-input.ensures.unchanged)
-
-pub returns-in_err-input-clause-asked : goal.returns-in_err-input-clause-asked
-returns-in_err-input-clause-asked g c =
+pub returns-in_err-input : goal.returns-in_err-input
+returns-in_err-input g c =
     let f = c.in_err-input.field-0.0 in
     let w = c.asked.inside in
-    let before = g.D.Desk.calls c.args.desk.now in
     rw (handed c.from_residual.result _ c.from_residual.ensures.1)
-    (subst (λ (a : EditAsked). PutsOnRecord before (g.D.Desk.calls c.fetch_edit.new.desk) (AreCallsTo (edit_calls a) f)) c.asked.view_is
-    (less-calls before _ (AreCallsTo (edit_calls (asked_in w)) f)
-    (λ calls h. either-calls (option_copied c.args.class) w.rules.now w.records.now (stores_in w) calls f c.in_err-input.ensures.kind h)
-    c.in_err-input.ensures.asked))
-
-pub returns-in_err-input-clause-faults : goal.returns-in_err-input-clause-faults
-returns-in_err-input-clause-faults g c = rw (handed c.from_residual.result _ c.from_residual.ensures.1) c.in_err-input.ensures.faults
+    (record {
+      kind = of-either (option_copied c.args.class) c.in_err-input.field-0.0 c.in_err-input.ensures.kind;
+      cause =
+          let before = g.D.Desk.files c.args.desk.now in
+          subst (λ (a : EditAsked). RefusesEither a.names.rules a.names.records (option_copied c.args.class) before f) c.asked.view_is
+          c.in_err-input.ensures.cause;
+      due =
+          let before = g.D.Desk.files c.args.desk.now in
+          subst (λ (a : EditAsked). IfSome before (λ o. AnswersDue (IsEitherDue a.names.rules a.names.records (option_copied c.args.class) o) (fault_status f)))
+          c.asked.view_is c.in_err-input.ensures.due;
+      files =
+          either-unstored (either_command c.args.asked.now (option_copied c.args.class)) (option_copied c.args.class) (g.D.Desk.files c.args.desk.now)
+          (g.D.Desk.files c.fetch_edit.new.desk) c.in_err-input.field-0.0 c.in_err-input.ensures.kind c.in_err-input.ensures.unchanged;
+      asked =
+          let before = g.D.Desk.calls c.args.desk.now in
+          subst (λ (a : EditAsked). PutsOnRecord before (g.D.Desk.calls c.fetch_edit.new.desk) (AreCallsTo (edit_calls a) f)) c.asked.view_is
+          (less-calls before _ (AreCallsTo (edit_calls (asked_in w)) f)
+          (λ calls h. either-calls (option_copied c.args.class) w.rules.now w.records.now (stores_in w) calls f c.in_err-input.ensures.kind h)
+          c.in_err-input.ensures.asked);
+      faults = c.in_err-input.ensures.faults;
+    })
 
 -- ---- memory is refused as the records are edited
 
-pub returns-in_default-clause-kind : goal.returns-in_default-clause-kind
-returns-in_default-clause-kind g c = rw c.out_of_memory.ensures (stores-either (option_copied c.args.class) fault.OutOfMemory tt)
-
-pub returns-in_default-clause-cause : goal.returns-in_default-clause-cause
-returns-in_default-clause-cause g c =
-    rw c.out_of_memory.ensures
-    (stores-refuse-either c.args.asked.now.names.rules c.args.asked.now.names.records (g.D.Desk.files c.args.desk.now) (option_copied c.args.class)
-    fault.OutOfMemory tt)
-
-pub returns-in_default-clause-due : goal.returns-in_default-clause-due
-returns-in_default-clause-due g c =
-    rw c.out_of_memory.ensures
-    (told-memory-due c.args.asked.now.names.rules c.args.asked.now.names.records (option_copied c.args.class) (g.D.Desk.files c.args.desk.now))
-
-pub returns-in_default-clause-files : goal.returns-in_default-clause-files
-returns-in_default-clause-files g c =
-    rw c.out_of_memory.ensures
-    (either-unstored (either_command c.args.asked.now (option_copied c.args.class)) (option_copied c.args.class) (g.D.Desk.files c.args.desk.now)
-    (g.D.Desk.files c.fetch_edit.new.desk) fault.OutOfMemory tt c.in_ok-input.ensures.unchanged)
-
-pub returns-in_default-clause-asked : goal.returns-in_default-clause-asked
-returns-in_default-clause-asked g c =
+pub returns-in_default : goal.returns-in_default
+returns-in_default g c =
     let w = c.asked.inside in
     let before = g.D.Desk.calls c.args.desk.now in
     rw c.out_of_memory.ensures
-    (subst (λ (a : EditAsked). PutsOnRecord before (g.D.Desk.calls c.fetch_edit.new.desk) (AreCallsTo (edit_calls a) fault.OutOfMemory))
-    c.asked.view_is
-    (less-calls before _ (AreCallsTo (edit_calls (asked_in w)) fault.OutOfMemory) (λ x e. (2, e)) c.in_ok-input.ensures.asked))
-
-pub returns-in_default-clause-faults : goal.returns-in_default-clause-faults
-returns-in_default-clause-faults g c = rw c.out_of_memory.ensures c.in_ok-input.ensures.faults
+    (record {
+      kind = stores-either (option_copied c.args.class) fault.OutOfMemory tt;
+      cause =
+          stores-refuse-either c.args.asked.now.names.rules c.args.asked.now.names.records (g.D.Desk.files c.args.desk.now) (option_copied c.args.class)
+          fault.OutOfMemory tt;
+      due = told-memory-due c.args.asked.now.names.rules c.args.asked.now.names.records (option_copied c.args.class) (g.D.Desk.files c.args.desk.now);
+      files =
+          either-unstored (either_command c.args.asked.now (option_copied c.args.class)) (option_copied c.args.class) (g.D.Desk.files c.args.desk.now)
+          (g.D.Desk.files c.fetch_edit.new.desk) fault.OutOfMemory tt c.in_ok-input.ensures.unchanged;
+      asked =
+          subst (λ (a : EditAsked). PutsOnRecord before (g.D.Desk.calls c.fetch_edit.new.desk) (AreCallsTo (edit_calls a) fault.OutOfMemory))
+          c.asked.view_is
+          (less-calls before _ (AreCallsTo (edit_calls (asked_in w)) fault.OutOfMemory) (λ x e. (2, e)) c.in_ok-input.ensures.asked);
+      faults = c.in_ok-input.ensures.faults;
+    })
 
 -- ---- a store ends in a fault
 
