@@ -9,26 +9,18 @@ use Rattle.panel_command.proofs.PanelLaws.{panel_made}
 use Rattle.run_parts.proofs.ToldLaws.{handed}
 use Rattle.panel_command.proofs.panel_run.make_release.Goals as goal
 
-pub returns-in_err-input-clause-made : goal.returns-in_err-input-clause-made
-returns-in_err-input-clause-made g c = rw (handed c.from_residual.result _ c.from_residual.ensures.1) tt
-
-pub returns-in_err-input-clause-kind : goal.returns-in_err-input-clause-kind
-returns-in_err-input-clause-kind g c = rw (handed c.from_residual.result _ c.from_residual.ensures.1) c.in_err-input.ensures.kind
-
-pub returns-in_err-input-clause-cause : goal.returns-in_err-input-clause-cause
-returns-in_err-input-clause-cause g c = rw (handed c.from_residual.result _ c.from_residual.ensures.1) c.in_err-input.ensures.cause
-
-pub returns-in_err-input-clause-due : goal.returns-in_err-input-clause-due
-returns-in_err-input-clause-due g c = rw (handed c.from_residual.result _ c.from_residual.ensures.1) c.in_err-input.ensures.due
-
-pub returns-in_err-input-clause-asked : goal.returns-in_err-input-clause-asked
-returns-in_err-input-clause-asked g c = rw (handed c.from_residual.result _ c.from_residual.ensures.1) c.in_err-input.ensures.asked
-
-pub returns-in_err-input-clause-faults : goal.returns-in_err-input-clause-faults
-returns-in_err-input-clause-faults g c = rw (handed c.from_residual.result _ c.from_residual.ensures.1) c.in_err-input.ensures.faults
-
-pub returns-in_err-input-clause-unchanged : goal.returns-in_err-input-clause-unchanged
-returns-in_err-input-clause-unchanged g c = c.in_err-input.ensures.unchanged
+pub returns-in_err-input : goal.returns-in_err-input
+returns-in_err-input g c =
+    rw (handed c.from_residual.result _ c.from_residual.ensures.1)
+    (record {
+      made = tt;
+      kind = c.in_err-input.ensures.kind;
+      cause = c.in_err-input.ensures.cause;
+      due = c.in_err-input.ensures.due;
+      asked = c.in_err-input.ensures.asked;
+      faults = c.in_err-input.ensures.faults;
+      unchanged = c.in_err-input.ensures.unchanged;
+    })
 
 pub returns-clause-made : goal.returns-clause-made
 returns-clause-made g c =

@@ -35,106 +35,83 @@ reasons_call w = stored w.reasons.now ∷ []
 abbrev released_call : Inside → List Asked
 released_call w = stored w.released.now ∷ []
 
-pub returns-in_err-store_file-clause-kind : goal.returns-in_err-store_file-clause-kind
-returns-in_err-store_file-clause-kind g c =
-    rw (handed c.from_residual.result _ c.from_residual.ensures.1) c.in_err-store_file.ensures.kind
-
-pub returns-in_err-store_file-clause-written : goal.returns-in_err-store_file-clause-written
-returns-in_err-store_file-clause-written g c = rw (handed c.from_residual.result _ c.from_residual.ensures.1) tt
-
-pub returns-in_err-store_file-clause-files : goal.returns-in_err-store_file-clause-files
-returns-in_err-store_file-clause-files g c =
+pub returns-in_err-store_file : goal.returns-in_err-store_file
+returns-in_err-store_file g c =
     let w = c.asked.inside in
     let release = c.args.release.now in
-    rw (handed c.from_residual.result _ c.from_residual.ensures.1, ← c.asked.view_is)
-    (stores-first (proof_of w release) (reasons_of w release ++ released_of w release) c.in_err-store_file.field-0.0 _ _
-    c.in_err-store_file.ensures.kind (rw c.deref.ensures.value at c.in_err-store_file.ensures.files))
-
-pub returns-in_err-store_file-clause-asked : goal.returns-in_err-store_file-clause-asked
-returns-in_err-store_file-clause-asked g c =
     let f = c.in_err-store_file.field-0.0 in
-    let w = c.asked.inside in
     let before = g.D.Desk.calls c.args.desk.now in
     let after = g.D.Desk.calls c.store_file.new.desk in
     rw (handed c.from_residual.result _ c.from_residual.ensures.1)
-    (subst (λ (a : PanelAsked). PutsOnRecord before after (AreCallsTo (store_calls (made_of a c.args.release.now).files) f)) c.asked.view_is
-    (less-calls before _ _
-    (λ calls h. calls-between [] (proof_call w) (reasons_call w ++ released_call w) calls f (of-stores _ c.in_err-store_file.ensures.kind) h)
-    c.in_err-store_file.ensures.asked))
+    (record {
+      kind = c.in_err-store_file.ensures.kind;
+      files =
+          rw (← c.asked.view_is)
+          (stores-first (proof_of w release) (reasons_of w release ++ released_of w release) c.in_err-store_file.field-0.0 _ _
+          c.in_err-store_file.ensures.kind (rw c.deref.ensures.value at c.in_err-store_file.ensures.files));
+      written = tt;
+      asked =
+          subst (λ (a : PanelAsked). PutsOnRecord before after (AreCallsTo (store_calls (made_of a c.args.release.now).files) f)) c.asked.view_is
+          (less-calls before _ _
+          (λ calls h. calls-between [] (proof_call w) (reasons_call w ++ released_call w) calls f (of-stores _ c.in_err-store_file.ensures.kind) h)
+          c.in_err-store_file.ensures.asked);
+      faults = c.in_err-store_file.ensures.faults;
+    })
 
-pub returns-in_err-store_file-clause-faults : goal.returns-in_err-store_file-clause-faults
-returns-in_err-store_file-clause-faults g c = rw (handed c.from_residual.result _ c.from_residual.ensures.1) c.in_err-store_file.ensures.faults
-
-pub returns-in_err-store_file-2-clause-kind : goal.returns-in_err-store_file-2-clause-kind
-returns-in_err-store_file-2-clause-kind g c =
-    rw (handed c.from_residual-in_err-store_file-2.result _ c.from_residual-in_err-store_file-2.ensures.1) c.in_err-store_file-2.ensures.kind
-
-pub returns-in_err-store_file-2-clause-written : goal.returns-in_err-store_file-2-clause-written
-returns-in_err-store_file-2-clause-written g c = rw (handed c.from_residual-in_err-store_file-2.result _ c.from_residual-in_err-store_file-2.ensures.1) tt
-
-pub returns-in_err-store_file-2-clause-files : goal.returns-in_err-store_file-2-clause-files
-returns-in_err-store_file-2-clause-files g c =
+pub returns-in_err-store_file-2 : goal.returns-in_err-store_file-2
+returns-in_err-store_file-2 g c =
     let w = c.asked.inside in
     let release = c.args.release.now in
     let r : Result (Unit {0}) Fault = Err c.in_err-store_file-2.field-0.0 in
-    rw (handed c.from_residual-in_err-store_file-2.result _ c.from_residual-in_err-store_file-2.ensures.1, ← c.asked.view_is)
-    (stores-first (proof_of w release ++ reasons_of w release) (released_of w release) c.in_err-store_file-2.field-0.0 _ _
-    c.in_err-store_file-2.ensures.kind
-    (stores-then (proof_of w release) (reasons_of w release) r _ _ _ c.in_err-store_file-2.ensures.kind
-    (rw c.deref.ensures.value at c.in_ok-store_file.ensures.files) (rw c.deref-2.ensures.value at c.in_err-store_file-2.ensures.files)))
-
-pub returns-in_err-store_file-2-clause-asked : goal.returns-in_err-store_file-2-clause-asked
-returns-in_err-store_file-2-clause-asked g c =
     let f = c.in_err-store_file-2.field-0.0 in
-    let w = c.asked.inside in
     let before = g.D.Desk.calls c.args.desk.now in
     let after = g.D.Desk.calls c.store_file-2.new.desk in
     rw (handed c.from_residual-in_err-store_file-2.result _ c.from_residual-in_err-store_file-2.ensures.1)
-    (subst (λ (a : PanelAsked). PutsOnRecord before after (AreCallsTo (store_calls (made_of a c.args.release.now).files) f)) c.asked.view_is
-    (behind-calls before _ _ (proof_call w) (reasons_call w) (released_call w) f (of-stores _ c.in_err-store_file-2.ensures.kind)
-    c.in_ok-store_file.ensures.asked c.in_err-store_file-2.ensures.asked))
+    (record {
+      kind = c.in_err-store_file-2.ensures.kind;
+      files =
+          rw (← c.asked.view_is)
+          (stores-first (proof_of w release ++ reasons_of w release) (released_of w release) c.in_err-store_file-2.field-0.0 _ _
+          c.in_err-store_file-2.ensures.kind
+          (stores-then (proof_of w release) (reasons_of w release) r _ _ _ c.in_err-store_file-2.ensures.kind
+          (rw c.deref.ensures.value at c.in_ok-store_file.ensures.files) (rw c.deref-2.ensures.value at c.in_err-store_file-2.ensures.files)));
+      written = tt;
+      asked =
+          subst (λ (a : PanelAsked). PutsOnRecord before after (AreCallsTo (store_calls (made_of a c.args.release.now).files) f)) c.asked.view_is
+          (behind-calls before _ _ (proof_call w) (reasons_call w) (released_call w) f (of-stores _ c.in_err-store_file-2.ensures.kind)
+          c.in_ok-store_file.ensures.asked c.in_err-store_file-2.ensures.asked);
+      faults =
+          c.in_err-store_file-2.ensures.faults
+          ∙ ap (faults_by c.in_err-store_file-2.field-0.0) c.in_ok-store_file.ensures.faults;
+    })
 
-pub returns-in_err-store_file-2-clause-faults : goal.returns-in_err-store_file-2-clause-faults
-returns-in_err-store_file-2-clause-faults g c =
-    rw (handed c.from_residual-in_err-store_file-2.result _ c.from_residual-in_err-store_file-2.ensures.1)
-    (c.in_err-store_file-2.ensures.faults
-    ∙ ap (faults_by c.in_err-store_file-2.field-0.0) c.in_ok-store_file.ensures.faults)
-
-pub returns-in_err-store_file-3-clause-kind : goal.returns-in_err-store_file-3-clause-kind
-returns-in_err-store_file-3-clause-kind g c =
-    rw (handed c.from_residual-in_err-store_file-3.result _ c.from_residual-in_err-store_file-3.ensures.1) c.in_err-store_file-3.ensures.kind
-
-pub returns-in_err-store_file-3-clause-written : goal.returns-in_err-store_file-3-clause-written
-returns-in_err-store_file-3-clause-written g c = rw (handed c.from_residual-in_err-store_file-3.result _ c.from_residual-in_err-store_file-3.ensures.1) tt
-
-pub returns-in_err-store_file-3-clause-files : goal.returns-in_err-store_file-3-clause-files
-returns-in_err-store_file-3-clause-files g c =
+pub returns-in_err-store_file-3 : goal.returns-in_err-store_file-3
+returns-in_err-store_file-3 g c =
     let w = c.asked.inside in
     let release = c.args.release.now in
     let r : Result (Unit {0}) Fault = Err c.in_err-store_file-3.field-0.0 in
-    rw (handed c.from_residual-in_err-store_file-3.result _ c.from_residual-in_err-store_file-3.ensures.1, ← c.asked.view_is)
-    (stores-then (proof_of w release ++ reasons_of w release) (released_of w release) r _ _ _ c.in_err-store_file-3.ensures.kind
-    (stores-both (proof_of w release) (reasons_of w release) _ _ _
-    (rw c.deref.ensures.value at c.in_ok-store_file.ensures.files) (rw c.deref-2.ensures.value at c.in_ok-store_file-2.ensures.files))
-    (rw c.deref-3.ensures.value at c.in_err-store_file-3.ensures.files))
-
-pub returns-in_err-store_file-3-clause-asked : goal.returns-in_err-store_file-3-clause-asked
-returns-in_err-store_file-3-clause-asked g c =
     let f = c.in_err-store_file-3.field-0.0 in
-    let w = c.asked.inside in
     let before = g.D.Desk.calls c.args.desk.now in
     let after = g.D.Desk.calls c.store_file-3.new.desk in
     rw (handed c.from_residual-in_err-store_file-3.result _ c.from_residual-in_err-store_file-3.ensures.1)
-    (subst (λ (a : PanelAsked). PutsOnRecord before after (AreCallsTo (store_calls (made_of a c.args.release.now).files) f)) c.asked.view_is
-    (behind-calls before _ _ (proof_call w ++ reasons_call w) (released_call w) [] f (of-stores _ c.in_err-store_file-3.ensures.kind)
-    (all-calls _ _ _ (proof_call w) (reasons_call w) c.in_ok-store_file.ensures.asked c.in_ok-store_file-2.ensures.asked)
-    c.in_err-store_file-3.ensures.asked))
-
-pub returns-in_err-store_file-3-clause-faults : goal.returns-in_err-store_file-3-clause-faults
-returns-in_err-store_file-3-clause-faults g c =
-    rw (handed c.from_residual-in_err-store_file-3.result _ c.from_residual-in_err-store_file-3.ensures.1)
-    (c.in_err-store_file-3.ensures.faults
-    ∙ ap (faults_by c.in_err-store_file-3.field-0.0) (c.in_ok-store_file-2.ensures.faults ∙ c.in_ok-store_file.ensures.faults))
+    (record {
+      kind = c.in_err-store_file-3.ensures.kind;
+      files =
+          rw (← c.asked.view_is)
+          (stores-then (proof_of w release ++ reasons_of w release) (released_of w release) r _ _ _ c.in_err-store_file-3.ensures.kind
+          (stores-both (proof_of w release) (reasons_of w release) _ _ _
+          (rw c.deref.ensures.value at c.in_ok-store_file.ensures.files) (rw c.deref-2.ensures.value at c.in_ok-store_file-2.ensures.files))
+          (rw c.deref-3.ensures.value at c.in_err-store_file-3.ensures.files));
+      written = tt;
+      asked =
+          subst (λ (a : PanelAsked). PutsOnRecord before after (AreCallsTo (store_calls (made_of a c.args.release.now).files) f)) c.asked.view_is
+          (behind-calls before _ _ (proof_call w ++ reasons_call w) (released_call w) [] f (of-stores _ c.in_err-store_file-3.ensures.kind)
+          (all-calls _ _ _ (proof_call w) (reasons_call w) c.in_ok-store_file.ensures.asked c.in_ok-store_file-2.ensures.asked)
+          c.in_err-store_file-3.ensures.asked);
+      faults =
+          c.in_err-store_file-3.ensures.faults
+          ∙ ap (faults_by c.in_err-store_file-3.field-0.0) (c.in_ok-store_file-2.ensures.faults ∙ c.in_ok-store_file.ensures.faults);
+    })
 
 pub returns-clause-files : goal.returns-clause-files
 returns-clause-files g c =
