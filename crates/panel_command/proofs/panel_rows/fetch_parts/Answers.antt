@@ -1,4 +1,4 @@
-use Rattle.std.proofs.Common.{◌∙◌, ◌≡◌, ◌∷◌, [], ◌++◌, List, ap, subst, sym}
+use Rattle.std.proofs.Common.{◌≡◌, ◌∷◌, [], ◌++◌, List, ap, subst, sym}
 use Rattle.edit_desk.specs.Desk.{Asked, PutsOnRecord, fetched}
 use Rattle.command_words.specs.Asked.{PanelAsked}
 use Rattle.command_words.specs.declared.panel_words.PanelWords.TheInside.{Inside}
@@ -16,24 +16,6 @@ abbrev asked_in : Inside → PanelAsked
 asked_in w = panel_of w.rules.now w.records.now w.last.now w.released.now w.reasons.now w.proof.now w.key.now w.budget
 
 -- ---- the records are refused
-
-pub returns-in_err-own-clause-own_held : goal.returns-in_err-own-clause-own_held
-returns-in_err-own-clause-own_held g c = rw (handed c.from_residual.result _ c.from_residual.ensures.1) tt
-
-pub returns-in_err-own-clause-last_held : goal.returns-in_err-own-clause-last_held
-returns-in_err-own-clause-last_held g c = rw (handed c.from_residual.result _ c.from_residual.ensures.1) tt
-
-pub returns-in_err-own-clause-own : goal.returns-in_err-own-clause-own
-returns-in_err-own-clause-own g c = rw (handed c.from_residual.result _ c.from_residual.ensures.1) tt
-
-pub returns-in_err-own-clause-last : goal.returns-in_err-own-clause-last
-returns-in_err-own-clause-last g c = rw (handed c.from_residual.result _ c.from_residual.ensures.1) tt
-
-pub returns-in_err-own-clause-own_key : goal.returns-in_err-own-clause-own_key
-returns-in_err-own-clause-own_key g c = rw (handed c.from_residual.result _ c.from_residual.ensures.1) tt
-
-pub returns-in_err-own-clause-last_key : goal.returns-in_err-own-clause-last_key
-returns-in_err-own-clause-last_key g c = rw (handed c.from_residual.result _ c.from_residual.ensures.1) tt
 
 pub returns-in_err-own-clause-cause : goal.returns-in_err-own-clause-cause
 returns-in_err-own-clause-cause g c =
@@ -58,31 +40,7 @@ returns-in_err-own-clause-asked g c =
     (λ calls h. records-calls w.rules.now w.records.now (fetched w.last.now ∷ []) calls f c.in_err-own.ensures.kind h)
     c.in_err-own.ensures.asked))
 
-pub returns-in_err-own-clause-faults : goal.returns-in_err-own-clause-faults
-returns-in_err-own-clause-faults g c = rw (handed c.from_residual.result _ c.from_residual.ensures.1) c.in_err-own.ensures.faults
-
-pub returns-in_err-own-clause-unchanged : goal.returns-in_err-own-clause-unchanged
-returns-in_err-own-clause-unchanged g c = c.in_err-own.ensures.unchanged
-
 -- ---- the file of the last period is refused
-
-pub returns-in_err-last-clause-own_held : goal.returns-in_err-last-clause-own_held
-returns-in_err-last-clause-own_held g c = rw (handed c.from_residual-in_err-last.result _ c.from_residual-in_err-last.ensures.1) tt
-
-pub returns-in_err-last-clause-last_held : goal.returns-in_err-last-clause-last_held
-returns-in_err-last-clause-last_held g c = rw (handed c.from_residual-in_err-last.result _ c.from_residual-in_err-last.ensures.1) tt
-
-pub returns-in_err-last-clause-own : goal.returns-in_err-last-clause-own
-returns-in_err-last-clause-own g c = rw (handed c.from_residual-in_err-last.result _ c.from_residual-in_err-last.ensures.1) tt
-
-pub returns-in_err-last-clause-last : goal.returns-in_err-last-clause-last
-returns-in_err-last-clause-last g c = rw (handed c.from_residual-in_err-last.result _ c.from_residual-in_err-last.ensures.1) tt
-
-pub returns-in_err-last-clause-own_key : goal.returns-in_err-last-clause-own_key
-returns-in_err-last-clause-own_key g c = rw (handed c.from_residual-in_err-last.result _ c.from_residual-in_err-last.ensures.1) tt
-
-pub returns-in_err-last-clause-last_key : goal.returns-in_err-last-clause-last_key
-returns-in_err-last-clause-last_key g c = rw (handed c.from_residual-in_err-last.result _ c.from_residual-in_err-last.ensures.1) tt
 
 pub returns-in_err-last-clause-kind : goal.returns-in_err-last-clause-kind
 returns-in_err-last-clause-kind g c =
@@ -120,9 +78,6 @@ returns-in_err-last-clause-faults g c =
     rw (handed c.from_residual-in_err-last.result _ c.from_residual-in_err-last.ensures.1)
     (rw c.in_ok-own.ensures.faults at c.in_err-last.ensures.faults)
 
-pub returns-in_err-last-clause-unchanged : goal.returns-in_err-last-clause-unchanged
-returns-in_err-last-clause-unchanged g c = c.in_err-last.ensures.unchanged ∙ c.in_ok-own.ensures.unchanged
-
 -- ---- both were read
 
 pub returns-clause-asked : goal.returns-clause-asked
@@ -133,21 +88,3 @@ returns-clause-asked g c =
     (λ calls. fetched a.rules ∷ calls ≡ reads_of a)) c.asked.view_is
     (less-calls before _ _ (λ calls e. ap (λ (l : List Asked). fetched w.rules.now ∷ l) e)
     (all-calls before _ _ (fetched w.records.now ∷ []) (fetched w.last.now ∷ []) c.in_ok-own.ensures.asked c.in_ok-last.ensures.asked))
-
-pub returns-clause-own : goal.returns-clause-own
-returns-clause-own g c = c.in_ok-own.ensures.sheet
-
-pub returns-clause-last : goal.returns-clause-last
-returns-clause-last g c = c.in_ok-last.ensures.sheet
-
-pub returns-clause-own_key : goal.returns-clause-own_key
-returns-clause-own_key g c = c.in_ok-own.ensures.within
-
-pub returns-clause-last_key : goal.returns-clause-last_key
-returns-clause-last_key g c = c.in_ok-last.ensures.within
-
-pub returns-clause-faults : goal.returns-clause-faults
-returns-clause-faults g c = c.in_ok-last.ensures.faults ∙ c.in_ok-own.ensures.faults
-
-pub returns-clause-unchanged : goal.returns-clause-unchanged
-returns-clause-unchanged g c = c.in_ok-last.ensures.unchanged ∙ c.in_ok-own.ensures.unchanged

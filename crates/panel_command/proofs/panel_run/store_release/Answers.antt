@@ -1,11 +1,11 @@
-use Rattle.std.proofs.Common.{◌≡◌, ◌∙◌, ◌∷◌, [], ◌++◌, List, Err, Result, subst, ap}
+use Rattle.std.proofs.Common.{◌≡◌, ◌∙◌, ◌∷◌, [], ◌++◌, List, Err, Result, subst}
 use Rattle.edit_desk.specs.Desk.{Asked, PutsOnRecord, stored}
 use Rattle.panel_release.specs.declared.release.PanelRelease.{PanelRelease}
 use Rattle.command_words.specs.Asked.{PanelAsked, panel_files_in}
 use Rattle.command_words.specs.declared.panel_words.PanelWords.TheInside.{Inside}
 use Rattle.command_words.specs.FileNames.{AreApart}
 use Rattle.panel_command.specs.PanelRun.{made_of}
-use Rattle.run_parts.specs.Run.{AreCallsTo, faults_by}
+use Rattle.run_parts.specs.Run.{AreCallsTo}
 use Rattle.run_parts.specs.Parts.{store_calls}
 use Rattle.run_parts.specs.declared.fault.Fault.{Fault}
 use Rattle.run_parts.proofs.CallLaws.{all-calls, behind-calls, calls-between, less-calls, of-stores}
@@ -80,9 +80,7 @@ returns-in_err-store_file-2 g c =
           subst (λ (a : PanelAsked). PutsOnRecord before after (AreCallsTo (store_calls (made_of a c.args.release.now).files) f)) c.asked.view_is
           (behind-calls before _ _ (proof_call w) (reasons_call w) (released_call w) f (of-stores _ c.in_err-store_file-2.ensures.kind)
           c.in_ok-store_file.ensures.asked c.in_err-store_file-2.ensures.asked);
-      faults =
-          c.in_err-store_file-2.ensures.faults
-          ∙ ap (faults_by c.in_err-store_file-2.field-0.0) c.in_ok-store_file.ensures.faults;
+      faults = rw c.in_ok-store_file.ensures.faults at c.in_err-store_file-2.ensures.faults;
     })
 
 pub returns-in_err-store_file-3 : goal.returns-in_err-store_file-3
@@ -108,9 +106,7 @@ returns-in_err-store_file-3 g c =
           (behind-calls before _ _ (proof_call w ++ reasons_call w) (released_call w) [] f (of-stores _ c.in_err-store_file-3.ensures.kind)
           (all-calls _ _ _ (proof_call w) (reasons_call w) c.in_ok-store_file.ensures.asked c.in_ok-store_file-2.ensures.asked)
           c.in_err-store_file-3.ensures.asked);
-      faults =
-          c.in_err-store_file-3.ensures.faults
-          ∙ ap (faults_by c.in_err-store_file-3.field-0.0) (c.in_ok-store_file-2.ensures.faults ∙ c.in_ok-store_file.ensures.faults);
+      faults = rw (c.in_ok-store_file-2.ensures.faults, c.in_ok-store_file.ensures.faults) at c.in_err-store_file-3.ensures.faults;
     })
 
 pub returns-clause-files : goal.returns-clause-files
