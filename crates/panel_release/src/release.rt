@@ -1,7 +1,8 @@
 //! What is made of the records of a panel. Each is joined with its row of the last period and corrected,
 //! and what becomes of it is told. In contracts, `IsPanelRelease` says that each record has an answer, and
 //! that the files and the summary tell just these. `TellsNone` and `TellsTo` say so before the first record and
-//! behind the first ones. `IsRead` says that both files were read with their key, and `IsEnd` that values which a record was given are those of its path.
+//! behind the first ones. `IsRead` says that both files were read with their key, and `IsEnd` that values
+//! which a record was given are those of its path.
 ghost use Rattle.std.specs.Prelude.{◌≡◌, ◌<◌, ℕ, List, IfOk, OnOk, length, map};
 ghost use Rattle.edit_model.specs.Rows.{IsRow};
 ghost use Rattle.edit_normal.specs.RuleLines.{normal_lines_of};

@@ -45,7 +45,8 @@ pub returns : goal.returns
 returns c =
     let survey = c.args.survey.now in
     let sheet = c.args.sheet.now in
-    let ended : c.loop-row_no.row_no ≡ length sheet.rows = omega (arith, c.loop-row_no-test.false, c.loop-row_no.auto.row_no-end, c.len-row_no-end.ensures.rows) in
+    let ended : c.loop-row_no.row_no ≡ length sheet.rows =
+    omega (arith, c.loop-row_no-test.false, c.loop-row_no.auto.row_no-end, c.len-row_no-end.ensures.rows) in
     record {
       filled = subst (λ (n : ℕ). IsFilledTo survey sheet c.args.budget n c.loop-row_no.writer c.loop-row_no.counts) ended c.loop-row_no.invariant;
     }

@@ -34,7 +34,8 @@ loop-row_no-init c =
 
 pub tell_record-requires-clause-width : goal.tell_record-requires-clause-width
 tell_record-requires-clause-width c =
-    let own = subst (λ (p : PanelCase). (bytes : List ℕ) × IsSheet (own_fields p.survey.fields p.set) bytes p.files.own) (sym c.panel.view_is) c.requires.read.own in
+    let own = subst (λ (p : PanelCase). (bytes : List ℕ) × IsSheet (own_fields p.survey.fields p.set) bytes p.files.own)
+    (sym c.panel.view_is) c.requires.read.own in
     let width = c.in_ok-layout.ensures.width ∙ ap (λ (p : PanelCase). length p.files.own.header) (sym c.panel.view_is) in
     ap (λ (t : List (List ℕ)). length t) c.raw.ensures
     ∙ raw-long _ _ _ _ own.1 (omega (arith, c.loop-row_no-test.true, c.loop-row_no.auto.row_no-end, c.len-row_no-end.ensures.row_texts))

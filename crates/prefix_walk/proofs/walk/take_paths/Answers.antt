@@ -62,13 +62,16 @@ returns-in-Some-2-clause-exact g c =
     c.in_ok-end.ensures c.in-Some-2.is
 
 pub returns-in-Some-2-clause-serves : goal.returns-in-Some-2-clause-serves
-returns-in-Some-2-clause-serves g c = λ e h. c.in_ok-push_lists.ensures.serves e (c.in_ok-look.ensures.serves e (c.loop-count.invariant.1 e (c.in_ok-before.ensures.serves e h)))
+returns-in-Some-2-clause-serves g c = λ e h.
+    c.in_ok-push_lists.ensures.serves e (c.in_ok-look.ensures.serves e (c.loop-count.invariant.1 e (c.in_ok-before.ensures.serves e h)))
 
 pub returns-in-Some-2-clause-keeps : goal.returns-in-Some-2-clause-keeps
-returns-in-Some-2-clause-keeps g c = λ f h. c.in_ok-push_lists.ensures.keeps f (c.in_ok-look.ensures.keeps f (c.loop-count.invariant.2 f (c.in_ok-before.ensures.keeps f h)))
+returns-in-Some-2-clause-keeps g c = λ f h.
+    c.in_ok-push_lists.ensures.keeps f (c.in_ok-look.ensures.keeps f (c.loop-count.invariant.2 f (c.in_ok-before.ensures.keeps f h)))
 
 pub returns-in-Some-2-clause-counts : goal.returns-in-Some-2-clause-counts
-returns-in-Some-2-clause-counts g c = omega (arith, c.loop-count.invariant.3, c.in_ok-before.ensures.counts, c.in_ok-look.ensures.counts, c.in_ok-push_lists.ensures.counts)
+returns-in-Some-2-clause-counts g c =
+    omega (arith, c.loop-count.invariant.3, c.in_ok-before.ensures.counts, c.in_ok-look.ensures.counts, c.in_ok-push_lists.ensures.counts)
 
 pub loop-count-preserved : goal.loop-count-preserved
 loop-count-preserved g c =
