@@ -21,7 +21,7 @@ import shutil
 import subprocess
 import sys
 import tempfile
-from concurrent.futures import ThreadPoolExecutor
+from concurrent.futures import ThreadPoolExecutor, as_completed
 
 sys.dont_write_bytecode = True
 
@@ -202,11 +202,11 @@ def main(names):
     crates = forxainde.crates_of_tree(rt.rtlib)
     sums = [0] * 5
     with forxainde.lock(), ThreadPoolExecutor(forxainde.processors()) as pool:
-        tries = [(name, pool.submit(try_crate, rt, crates[name], os.environ.get("LOG"))) for name in names]
-        for name, tried in tries:
+        tries = {pool.submit(try_crate, rt, crates[name], os.environ.get("LOG")): name for name in names}
+        for tried in as_completed(tries):
             found = tried.result()
             sums = [a + b for a, b in zip(sums, counts_of(found))]
-            print(f"{name}: {text_of(counts_of(found))}", flush=True)
+            print(f"{tries[tried]}: {text_of(counts_of(found))}", flush=True)
             for edit, what in found.items():
                 if what not in ("refused", "named"):
                     print(f"    {edit}: {what}", flush=True)
