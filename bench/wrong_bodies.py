@@ -66,14 +66,17 @@ def module_of(path):
 
 
 def function_of(crate, pairs):
-    """The module and the name of the function in whose body all changes lie, where its file has no other of that name."""
+    """The module and the name of the function in whose body all changes lie, where its file has no other of that name. None where they may
+    lie elsewhere, too."""
     found = set()
     for path, old, _ in pairs:
         if not path.startswith("src/") or path in ("src/lib.rt", "src/main.rt"):
             return None
         with open(f"{crate.folder}/{path}", encoding="utf-8") as file:
             text = file.read()
-        place = text.index(old)
+        place = text.find(old)
+        if place < 0:
+            return None  # (the change before made this text)
         heads = [it for it in FUNCTION.finditer(text) if it.start() <= place]
         if not heads:
             return None
