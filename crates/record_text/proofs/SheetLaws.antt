@@ -9,7 +9,6 @@ use Rattle.edit_model.specs.declared.field.Field.{Field}
 use Rattle.edit_model.specs.declared.value.Value.{Value}
 use Rattle.record_text.specs.Faults.{sheet_fault}
 use Rattle.record_text.specs.Sheets.{AreRecordsOf, IsSheet, IsSheetFault, SheetParts}
-use Rattle.record_text.specs.Texts.{AreEquallyLong}
 use Rattle.record_text.specs.declared.fault.SheetFault.{SheetFault}
 use Rattle.record_text.specs.declared.fault.SheetFault.TheVariants.{OutOfMemory}
 use Rattle.record_text.proofs.AllRecords.{same_records}
@@ -120,7 +119,3 @@ module _ (fields : List Field) (bytes : List ℕ) (sheet : SheetParts) (is : IsS
   -- each row is a record of the survey
   pub rows_are_records : AllByRecursion (IsRow fields) sheet.rows
   rows_are_records = all_are_rows fields sheet.columns sheet.row_texts sheet.rows is.values
-
-  -- the header and the texts of all rows may be written
-  pub sheet_is_written : AreEquallyLong (sheet.header ∷ sheet.row_texts)
-  sheet_is_written = (header_has_text, row_texts_as_long_as_header)
