@@ -13,7 +13,6 @@ pub mod RangeLaws
 pub mod RankedLaws
 pub mod RankingLaws
 pub mod ReachLaws
-pub mod Refusals
 pub mod SameLaws
 pub mod TableLaws
 pub mod WalkLaws

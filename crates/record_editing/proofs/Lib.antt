@@ -1,3 +1,2 @@
 pub mod DonationLaws
-pub mod ErrorLaws
 pub mod OrderLaws

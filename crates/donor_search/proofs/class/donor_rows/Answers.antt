@@ -1,10 +1,10 @@
 use Rattle.std.proofs.Common.{[], add-one, length, ◌<◌, ℕ, List, All, arith, subst, sym}
 use Rattle.std.specs.List.Sorted.{IsStrictlyIncreasing}
+use Rattle.record_text.proofs.Refusals.{no_value}
 use Rattle.donor_search.specs.CleanRows.{IsCleanRow}
 use Rattle.donor_search.specs.inner.Donors.{is_donor_in}
 use Rattle.donor_search.proofs.ClassLaws.{in_clean, in_rise}
 use Rattle.donor_search.proofs.PlaceLaws.{found-all, found-more}
-use Rattle.donor_search.proofs.Refusals.{no_value}
 use Rattle.donor_search.proofs.class.donor_rows.Goals as goal
 
 pub returns-clause-donors : goal.returns-clause-donors

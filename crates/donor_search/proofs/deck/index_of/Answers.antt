@@ -1,4 +1,4 @@
-use Rattle.donor_search.proofs.Refusals.{no_value}
+use Rattle.record_text.proofs.Refusals.{no_value}
 use Rattle.donor_search.proofs.deck.index_of.Goals as goal
 
 pub returns-in_err-slots_of-clause-fields : goal.returns-in_err-slots_of-clause-fields

@@ -1,5 +1,6 @@
 use Rattle.std.proofs.Common.{◌≡◌, ◌∙◌, length, refl, subst, sym}
 use Rattle.std.specs.List.{AllZip}
+use Rattle.record_text.proofs.Refusals.{no_value}
 use Rattle.record_pieces.specs.Rests.{ArePiecesIn, IsRest, class_field_in, rows_in}
 use Rattle.record_pieces.specs.declared.rest.Rest.{Rest}
 use Rattle.record_ends.specs.Givings.{IsEndIn, SaysIn}
@@ -8,7 +9,6 @@ use Rattle.record_editing.specs.Donations.{AreInOrder}
 use Rattle.record_editing.specs.declared.terms.Terms.{Terms}
 use Rattle.record_editing.specs.inner.Givings.{AreDonationsIn}
 use Rattle.record_editing.proofs.DonationLaws.{alone-in-order, donations-are, ends-become, ends-say}
-use Rattle.record_editing.proofs.ErrorLaws.{not_ok}
 use Rattle.record_editing.proofs.records.edit_by.Goals as goal
 
 pub ready_workers-requires-clause-rest : goal.ready_workers-requires-clause-rest
@@ -35,49 +35,49 @@ give_all-requires-clause-rest g c κs within =
     subst (λ (r : Rest g.row.F.Denot). IsRest g.F.Fn r) (sym c.in_ok-pieces.ensures.rest) c.in_ok-shared.ensures.shared.rest
 
 pub returns-in_err-shared-clause-rest : goal.returns-in_err-shared-clause-rest
-returns-in_err-shared-clause-rest g c = not_ok c.from_residual.result _ _ c.from_residual.ensures.1
+returns-in_err-shared-clause-rest g c = no_value c.from_residual.result _ _ c.from_residual.ensures.1
 
 pub returns-in_err-shared-clause-ends : goal.returns-in_err-shared-clause-ends
-returns-in_err-shared-clause-ends g c = not_ok c.from_residual.result _ _ c.from_residual.ensures.1
+returns-in_err-shared-clause-ends g c = no_value c.from_residual.result _ _ c.from_residual.ensures.1
 
 pub returns-in_err-shared-clause-say : goal.returns-in_err-shared-clause-say
-returns-in_err-shared-clause-say g c = not_ok c.from_residual.result _ _ c.from_residual.ensures.1
+returns-in_err-shared-clause-say g c = no_value c.from_residual.result _ _ c.from_residual.ensures.1
 
 pub returns-in_err-shared-clause-donations : goal.returns-in_err-shared-clause-donations
-returns-in_err-shared-clause-donations g c = not_ok c.from_residual.result _ _ c.from_residual.ensures.1
+returns-in_err-shared-clause-donations g c = no_value c.from_residual.result _ _ c.from_residual.ensures.1
 
 pub returns-in_err-shared-clause-order : goal.returns-in_err-shared-clause-order
-returns-in_err-shared-clause-order g c = not_ok c.from_residual.result _ _ c.from_residual.ensures.1
+returns-in_err-shared-clause-order g c = no_value c.from_residual.result _ _ c.from_residual.ensures.1
 
 pub returns-in_err-pieces-clause-rest : goal.returns-in_err-pieces-clause-rest
-returns-in_err-pieces-clause-rest g c = not_ok c.from_residual-in_err-pieces.result _ _ c.from_residual-in_err-pieces.ensures.1
+returns-in_err-pieces-clause-rest g c = no_value c.from_residual-in_err-pieces.result _ _ c.from_residual-in_err-pieces.ensures.1
 
 pub returns-in_err-pieces-clause-ends : goal.returns-in_err-pieces-clause-ends
-returns-in_err-pieces-clause-ends g c = not_ok c.from_residual-in_err-pieces.result _ _ c.from_residual-in_err-pieces.ensures.1
+returns-in_err-pieces-clause-ends g c = no_value c.from_residual-in_err-pieces.result _ _ c.from_residual-in_err-pieces.ensures.1
 
 pub returns-in_err-pieces-clause-say : goal.returns-in_err-pieces-clause-say
-returns-in_err-pieces-clause-say g c = not_ok c.from_residual-in_err-pieces.result _ _ c.from_residual-in_err-pieces.ensures.1
+returns-in_err-pieces-clause-say g c = no_value c.from_residual-in_err-pieces.result _ _ c.from_residual-in_err-pieces.ensures.1
 
 pub returns-in_err-pieces-clause-donations : goal.returns-in_err-pieces-clause-donations
-returns-in_err-pieces-clause-donations g c = not_ok c.from_residual-in_err-pieces.result _ _ c.from_residual-in_err-pieces.ensures.1
+returns-in_err-pieces-clause-donations g c = no_value c.from_residual-in_err-pieces.result _ _ c.from_residual-in_err-pieces.ensures.1
 
 pub returns-in_err-pieces-clause-order : goal.returns-in_err-pieces-clause-order
-returns-in_err-pieces-clause-order g c = not_ok c.from_residual-in_err-pieces.result _ _ c.from_residual-in_err-pieces.ensures.1
+returns-in_err-pieces-clause-order g c = no_value c.from_residual-in_err-pieces.result _ _ c.from_residual-in_err-pieces.ensures.1
 
 pub returns-in_err-ends-clause-rest : goal.returns-in_err-ends-clause-rest
-returns-in_err-ends-clause-rest g c = not_ok c.from_residual-in_err-ends.result _ _ c.from_residual-in_err-ends.ensures.1
+returns-in_err-ends-clause-rest g c = no_value c.from_residual-in_err-ends.result _ _ c.from_residual-in_err-ends.ensures.1
 
 pub returns-in_err-ends-clause-ends : goal.returns-in_err-ends-clause-ends
-returns-in_err-ends-clause-ends g c = not_ok c.from_residual-in_err-ends.result _ _ c.from_residual-in_err-ends.ensures.1
+returns-in_err-ends-clause-ends g c = no_value c.from_residual-in_err-ends.result _ _ c.from_residual-in_err-ends.ensures.1
 
 pub returns-in_err-ends-clause-say : goal.returns-in_err-ends-clause-say
-returns-in_err-ends-clause-say g c = not_ok c.from_residual-in_err-ends.result _ _ c.from_residual-in_err-ends.ensures.1
+returns-in_err-ends-clause-say g c = no_value c.from_residual-in_err-ends.result _ _ c.from_residual-in_err-ends.ensures.1
 
 pub returns-in_err-ends-clause-donations : goal.returns-in_err-ends-clause-donations
-returns-in_err-ends-clause-donations g c = not_ok c.from_residual-in_err-ends.result _ _ c.from_residual-in_err-ends.ensures.1
+returns-in_err-ends-clause-donations g c = no_value c.from_residual-in_err-ends.result _ _ c.from_residual-in_err-ends.ensures.1
 
 pub returns-in_err-ends-clause-order : goal.returns-in_err-ends-clause-order
-returns-in_err-ends-clause-order g c = not_ok c.from_residual-in_err-ends.result _ _ c.from_residual-in_err-ends.ensures.1
+returns-in_err-ends-clause-order g c = no_value c.from_residual-in_err-ends.result _ _ c.from_residual-in_err-ends.ensures.1
 
 pub returns : goal.returns
 returns g c =

@@ -1,6 +1,6 @@
 use Rattle.std.proofs.Common.{◌∙◌, ℕ, Option, IfOk, arith, subst, sym}
+use Rattle.record_text.proofs.Refusals.{no_value}
 use Rattle.record_editing.specs.Donations.{AreDonations}
-use Rattle.record_editing.proofs.ErrorLaws.{not_ok}
 use Rattle.record_editing.proofs.records.edit_records.Goals as goal
 
 -- ---- the records are edited by what was made ready
@@ -45,39 +45,39 @@ returns-clause-order g c = rw (← c.in_ok-decks.ensures.class_field) c.edit_by.
 -- ---- the decks could not be made
 
 pub returns-in_err-decks-clause-survey : goal.returns-in_err-decks-clause-survey
-returns-in_err-decks-clause-survey g c = not_ok c.from_residual.result _ _ c.from_residual.ensures.1
+returns-in_err-decks-clause-survey g c = no_value c.from_residual.result _ _ c.from_residual.ensures.1
 
 pub returns-in_err-decks-clause-sheet : goal.returns-in_err-decks-clause-sheet
-returns-in_err-decks-clause-sheet g c = not_ok c.from_residual.result _ _ c.from_residual.ensures.1
+returns-in_err-decks-clause-sheet g c = no_value c.from_residual.result _ _ c.from_residual.ensures.1
 
 pub returns-in_err-decks-clause-ends : goal.returns-in_err-decks-clause-ends
-returns-in_err-decks-clause-ends g c = not_ok c.from_residual.result _ _ c.from_residual.ensures.1
+returns-in_err-decks-clause-ends g c = no_value c.from_residual.result _ _ c.from_residual.ensures.1
 
 pub returns-in_err-decks-clause-say : goal.returns-in_err-decks-clause-say
-returns-in_err-decks-clause-say g c = not_ok c.from_residual.result _ _ c.from_residual.ensures.1
+returns-in_err-decks-clause-say g c = no_value c.from_residual.result _ _ c.from_residual.ensures.1
 
 pub returns-in_err-decks-clause-donations : goal.returns-in_err-decks-clause-donations
-returns-in_err-decks-clause-donations g c = not_ok c.from_residual.result _ _ c.from_residual.ensures.1
+returns-in_err-decks-clause-donations g c = no_value c.from_residual.result _ _ c.from_residual.ensures.1
 
 pub returns-in_err-decks-clause-order : goal.returns-in_err-decks-clause-order
-returns-in_err-decks-clause-order g c = not_ok c.from_residual.result _ _ c.from_residual.ensures.1
+returns-in_err-decks-clause-order g c = no_value c.from_residual.result _ _ c.from_residual.ensures.1
 
 -- ---- the pool could not be made
 
 pub returns-in_err-edits-clause-survey : goal.returns-in_err-edits-clause-survey
-returns-in_err-edits-clause-survey g c = not_ok c.from_residual-in_err-edits.result _ _ c.from_residual-in_err-edits.ensures.1
+returns-in_err-edits-clause-survey g c = no_value c.from_residual-in_err-edits.result _ _ c.from_residual-in_err-edits.ensures.1
 
 pub returns-in_err-edits-clause-sheet : goal.returns-in_err-edits-clause-sheet
-returns-in_err-edits-clause-sheet g c = not_ok c.from_residual-in_err-edits.result _ _ c.from_residual-in_err-edits.ensures.1
+returns-in_err-edits-clause-sheet g c = no_value c.from_residual-in_err-edits.result _ _ c.from_residual-in_err-edits.ensures.1
 
 pub returns-in_err-edits-clause-ends : goal.returns-in_err-edits-clause-ends
-returns-in_err-edits-clause-ends g c = not_ok c.from_residual-in_err-edits.result _ _ c.from_residual-in_err-edits.ensures.1
+returns-in_err-edits-clause-ends g c = no_value c.from_residual-in_err-edits.result _ _ c.from_residual-in_err-edits.ensures.1
 
 pub returns-in_err-edits-clause-say : goal.returns-in_err-edits-clause-say
-returns-in_err-edits-clause-say g c = not_ok c.from_residual-in_err-edits.result _ _ c.from_residual-in_err-edits.ensures.1
+returns-in_err-edits-clause-say g c = no_value c.from_residual-in_err-edits.result _ _ c.from_residual-in_err-edits.ensures.1
 
 pub returns-in_err-edits-clause-donations : goal.returns-in_err-edits-clause-donations
-returns-in_err-edits-clause-donations g c = not_ok c.from_residual-in_err-edits.result _ _ c.from_residual-in_err-edits.ensures.1
+returns-in_err-edits-clause-donations g c = no_value c.from_residual-in_err-edits.result _ _ c.from_residual-in_err-edits.ensures.1
 
 pub returns-in_err-edits-clause-order : goal.returns-in_err-edits-clause-order
-returns-in_err-edits-clause-order g c = not_ok c.from_residual-in_err-edits.result _ _ c.from_residual-in_err-edits.ensures.1
+returns-in_err-edits-clause-order g c = no_value c.from_residual-in_err-edits.result _ _ c.from_residual-in_err-edits.ensures.1

@@ -2,6 +2,7 @@ use Rattle.std.proofs.Common.{◌≡◌, ◌<◌, ◌∙◌, ◌++◌, [], ℕ, 
 use Rattle.std.proofs.lemmas.List.{take_all}
 use Rattle.edit_model.specs.declared.value.Value.{Value}
 use Rattle.edit_model.proofs.RowLaws.{row-length}
+use Rattle.record_text.proofs.Refusals.{no_value}
 use Rattle.donor_measure.specs.Buckets.{marks_of}
 use Rattle.donor_measure.specs.Yardsticks.{yardsticks_of}
 use Rattle.donor_measure.specs.declared.yardstick.Yardstick.{Yardstick}
@@ -10,7 +11,6 @@ use Rattle.donor_search.specs.CleanRows.{row_at}
 use Rattle.donor_search.proofs.CleanLaws.{is_row_at}
 use Rattle.donor_search.proofs.MarkTables.{lists_more, row_put}
 use Rattle.donor_search.proofs.ProfileLaws.{marks_long}
-use Rattle.donor_search.proofs.Refusals.{no_value}
 use Rattle.donor_search.proofs.row_marks.RowMarks.of.Goals as goal
 
 pub push_marks-requires : goal.push_marks-requires
