@@ -53,6 +53,13 @@ pub(crate) struct Taken {
     pub(crate) basis: Option<Basis>,
 }
 
+/// The paths that were taken, in order, and how many more lines and boxes may be kept of them.
+#[derive(Drop)]
+struct TakenPaths {
+    paths: Vec<Taken>,
+    room: usize,
+}
+
 /// A path that was reached, and its state.
 #[derive(Clone, Copy)]
 struct Reached<'a> {
@@ -151,9 +158,11 @@ fn search<S: Systems, L: Ledger>(
     ensures keeps { (f : ℕ) → S.keeps source.old f ≡ true → S.keeps source.new f ≡ true }
     ensures counts { steps.old ≤ steps.new }
 {
-    let mut taken = Vec::new(alloc);
+    let mut taken = TakenPaths {
+        paths: Vec::new(alloc),
+        room: MOST_KEPT,
+    };
     let mut spent = 0;
-    let mut room = MOST_KEPT;
     let mut ends = first_end(alloc, source, problem, steps)?;
     while let Some(node) = take_first(&mut ends) {
         let Some(look) = look_into(
@@ -176,13 +185,13 @@ fn search<S: Systems, L: Ledger>(
             node: &node,
             state: look.state,
         };
-        if let Some(outcome) = end_by(alloc, source, problem, &taken, reached, steps)? {
+        if let Some(outcome) = end_by(alloc, source, problem, &taken.paths, reached, steps)? {
             return Ok(outcome);
         }
-        take_up(alloc, problem, &mut ends, &mut taken, &mut room, node, look)?;
+        take_up(alloc, problem, &mut ends, &mut taken, node, look)?;
     }
     Ok(Outcome::Contradictory {
-        cert: certificate(alloc, source, problem, &taken, steps)?,
+        cert: certificate(alloc, source, problem, &taken.paths, steps)?,
     })
 }
 
@@ -192,8 +201,7 @@ fn take_up(
     alloc: Global,
     problem: &Problem,
     ends: &mut VecDeque<Node>,
-    taken: &mut Vec<Taken>,
-    room: &mut usize,
+    taken: &mut TakenPaths,
     node: Node,
     look: Look,
 ) -> Result<(), OutOfMemory>
@@ -208,12 +216,12 @@ fn take_up(
     ensures kept { OnOk result
         (StayKept (case_in problem.now) node.path look.state ends.old.items ends.new.items) }
     ensures taken { OnOk result
-        (HasTaken (case_in problem.now) node.path look.state taken.old.items taken.new.items) }
+        (HasTaken (case_in problem.now) node.path look.state taken.old.paths.items taken.new.paths.items) }
 {
     let state = look.state;
-    let basis = look.kept_basis(room)?;
+    let basis = look.kept_basis(&mut taken.room)?;
     lead_on(alloc, problem, ends, &node, look)?;
-    taken.push(Taken {
+    taken.paths.push(Taken {
         path: node.into_path(),
         state,
         basis,

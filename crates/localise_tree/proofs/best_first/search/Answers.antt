@@ -17,7 +17,7 @@ use Rattle.localise_tree.proofs.best_first.search.Goals as goal
 pub returns-in_default-2-clause-exact : goal.returns-in_default-2-clause-exact
 returns-in_default-2-clause-exact g c =
     ap (λ (p : List Bool). outcome.Budget p c.loop-node.spent) c.into_path.ensures
-    ∙ run-budget (case_in c.args.problem.now) c.args.budget c.loop-node.spent c.loop-node.taken.items c.loop-node.ends.items c.take_first.new.ends.items
+    ∙ run-budget (case_in c.args.problem.now) c.args.budget c.loop-node.spent c.loop-node.taken.paths.items c.loop-node.ends.items c.take_first.new.ends.items
     c.in-Some.node c.loop-node.invariant.0 c.in-Some.ensures.some
     (none-of _ c.in_ok-look.field-0 c.in_default-2.not-Some c.in_ok-look.ensures.passed)
 
@@ -25,7 +25,7 @@ pub returns-in-Some-3-clause-exact : goal.returns-in-Some-3-clause-exact
 returns-in-Some-3-clause-exact g c =
     let look = subst (λ (o : Option Look). IfSome o (λ look. IsLook (case_in c.args.problem.now) c.in-Some.node.path look
     × (look.work ≤ c.args.budget - c.loop-node.spent))) c.in-Some-2.is c.in_ok-look.ensures.look in
-    run-ends (case_in c.args.problem.now) c.args.budget c.loop-node.spent c.loop-node.taken.items c.loop-node.ends.items c.take_first.new.ends.items
+    run-ends (case_in c.args.problem.now) c.args.budget c.loop-node.spent c.loop-node.taken.paths.items c.loop-node.ends.items c.take_first.new.ends.items
     c.in-Some.node c.loop-node.invariant.0 c.in-Some.ensures.some c.in-Some-2.look.work c.in-Some-2.look.state c.deref.result.now c.in_ok-outcome.field-0
     look.0.work look.1 look.0.state c.deref.ensures.value c.in_ok-outcome.ensures.end c.in-Some-3.outcome c.in-Some-3.is
 
@@ -41,7 +41,7 @@ pub loop-node-smaller : goal.loop-node-smaller
 loop-node-smaller g c =
     let look = subst (λ (o : Option Look). IfSome o (λ look. IsLook (case_in c.args.problem.now) c.in-Some.node.path look
     × (look.work ≤ c.args.budget - c.loop-node.spent))) c.in-Some-2.is c.in_ok-look.ensures.look in
-    run-less (case_in c.args.problem.now) c.args.budget c.loop-node.spent c.loop-node.taken.items c.loop-node.ends.items c.take_first.new.ends.items
+    run-less (case_in c.args.problem.now) c.args.budget c.loop-node.spent c.loop-node.taken.paths.items c.loop-node.ends.items c.take_first.new.ends.items
     c.in-Some.node c.loop-node.invariant.0 c.in-Some.ensures.some c.in-Some-2.look.work c.in-Some-2.look.state c.deref.result.now c.in_ok-outcome.field-0
     look.0.work look.1 look.0.state c.deref.ensures.value c.in_ok-outcome.ensures.end c.take_up.new.ends.items c.in_ok-take_up.ensures.paths
 
@@ -53,11 +53,11 @@ loop-node-preserved g c =
     → KeepsChanged (g.S.Systems.keeps c.look_into.new.source) (case_in c.args.problem.now) c.in-Some.node.path)) c.in-Some-2.is c.in_ok-look.ensures.kept in
     let rest = (first-kept (case_in c.args.problem.now) (g.S.Systems.keeps c.loop-node.source) c.loop-node.ends.items c.take_first.new.ends.items
     c.in-Some.node c.in-Some.ensures.some c.loop-node.invariant.1).1 in (
-      run-turn (case_in c.args.problem.now) c.args.budget c.loop-node.spent c.loop-node.taken.items c.loop-node.ends.items c.take_first.new.ends.items
+      run-turn (case_in c.args.problem.now) c.args.budget c.loop-node.spent c.loop-node.taken.paths.items c.loop-node.ends.items c.take_first.new.ends.items
           c.in-Some.node c.loop-node.invariant.0 c.in-Some.ensures.some c.in-Some-2.look.work c.in-Some-2.look.state c.deref.result.now c.in_ok-outcome.field-0
           look.0.work look.1 look.0.state c.deref.ensures.value c.in_ok-outcome.ensures.end c.take_up.new.ends.items c.in_ok-take_up.ensures.paths
           (none-is c.in_ok-outcome.field-0 c.in_default-3.not-Some) c.in_ok-take_up.ensures.nodes c.in_ok-take_up.ensures.taken.0
-          c.in_ok-take_up.ensures.taken.1 c.take_up.new.taken.items c.in_ok-take_up.ensures.taken.2,
+          c.in_ok-take_up.ensures.taken.1 c.take_up.new.taken.paths.items c.in_ok-take_up.ensures.taken.2,
       c.in_ok-take_up.ensures.kept (g.S.Systems.keeps c.end_by.new.source)
           (λ opened. path-later (case_in c.args.problem.now) (g.S.Systems.keeps c.look_into.new.source) (g.S.Systems.keeps c.end_by.new.source)
           c.in-Some.node.path c.in_ok-outcome.ensures.keeps (kept opened))

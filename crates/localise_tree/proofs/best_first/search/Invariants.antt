@@ -8,7 +8,7 @@ use Rattle.localise_tree.proofs.best_first.search.Given as goal
 
 abbrev pub invariant-loop-node : goal.invariant-loop-node
 invariant-loop-node g l =
-    IsRunning (case_in l.problem) l.budget l.spent l.taken.items l.ends.items
+    IsRunning (case_in l.problem) l.budget l.spent l.taken.paths.items l.ends.items
     × AreKept (g.S.Systems.keeps l.source) (case_in l.problem) l.ends.items
     × ((e : EditsParts) → g.S.Systems.serves l.initial.source e → g.S.Systems.serves l.source e)
     × ((f : ℕ) → g.S.Systems.keeps l.initial.source f ≡ true → g.S.Systems.keeps l.source f ≡ true)

@@ -7,8 +7,8 @@ use Rattle.localise_tree.proofs.best_first.take_up.Goals as goal
 pub returns-clause-taken : goal.returns-clause-taken
 returns-clause-taken c = (
   c.in_ok-basis.basis,
-  kept-basis (case_in c.args.problem.now) c.args.node.path c.args.look c.args.room.now c.kept_basis.new.room c.in_ok-basis.basis c.requires.look
+  kept-basis (case_in c.args.problem.now) c.args.node.path c.args.look c.args.taken.now.room c.kept_basis.new.room c.in_ok-basis.basis c.requires.look
       c.in_ok-basis.ensures,
-  c.in_ok-push.ensures.items ∙ ap (λ (p : List Bool). c.args.taken.now.items
+  c.in_ok-push.ensures.items ∙ ap (λ (p : List Bool). c.args.taken.now.paths.items
       ++ record { path = p; state = c.args.look.state; basis = c.in_ok-basis.basis } ∷ []) c.into_path.ensures,
 )
