@@ -8,7 +8,6 @@ use Rattle.edit_line.specs.Reductions.{IsIn}
 use Rattle.edit_line.specs.declared.place.Place.{Place}
 use Rattle.bound_cert.specs.Paths.{path_weight}
 use Rattle.bound_cert.specs.declared.outcome.Event.TheVariants as event
-use Rattle.bound_cert.specs.declared.outcome.Outcome.TheVariants as outcome
 use Rattle.edit_paths.specs.Cases.{SearchCase, IsCase, Meets, TellCorrections, case_of}
 use Rattle.edit_paths.specs.Choices.{IsChoice}
 use Rattle.edit_paths.specs.Events.{IsStepOverflow, IsTestOverflow}

@@ -1,5 +1,5 @@
 -- The lists that lead to a path: the lines of systems and boxes, from which its closing steps come.
-use Rattle.std.specs.Prelude.{◌≡◌, ◌++◌, ◌<◌, ◌≤◌, ℕ, Bool, List, [], length}
+use Rattle.std.specs.Prelude.{◌≡◌, ◌++◌, ◌<◌, ◌≤◌, Bool, List, [], length}
 use Rattle.std.specs.Arc.{arc_value}
 use Rattle.std.specs.List.{fold}
 use Rattle.categ_combine.specs.declared.box_from.BoxFrom.{BoxFrom}

@@ -1,5 +1,4 @@
 use Rattle.std.proofs.Common.{◌++◌, ◌∙◌, [], ◌∷◌, Bool, List, ap}
-use Rattle.std.proofs.lemmas.Result.{IfOk-from_err}
 use Rattle.path_walk.specs.Problems.{case_in}
 use Rattle.localise_tree.proofs.SearchLaws.{kept-basis}
 use Rattle.localise_tree.proofs.best_first.take_up.Goals as goal
