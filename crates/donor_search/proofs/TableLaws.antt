@@ -1,8 +1,9 @@
 use Rattle.std.proofs.Common.{◌≡◌, ◌∙◌, ℕ, zero, suc, ◌+◌, ◌-◌, ◌*◌, ◌<◌, ◌≤◌, List, [], ◌∷◌, ◌++◌, drop, get_or, length, length-append, take, ap, sym, subst}
-use Rattle.std.proofs.Common.{arith}
+use Rattle.std.proofs.Common.{arith, map}
 use Rattle.std.specs.List.{flat_map}
 use Rattle.std.proofs.Math.Nat.{mul-le-mul_right}
 use Rattle.std.proofs.Math.Seq.{drop-append-add, take-append_seam}
+use Rattle.std.proofs.lemmas.List.{map_more}
 
 -- Lists that stand one after the other, as many elements each.
 
@@ -59,3 +60,9 @@ module _ {X : Type 0} (marks : X → List ℕ) (count : ℕ) (each : (x : X) →
 
   pub entry_is : (d : X) → take (k * n + n - k * n) (drop (k * n) all) ≡ marks (get_or xs k d)
   entry_is d = part_is n count k all (flat_map marks xs) count_is all_is ∙ table_at marks count each xs k d below
+
+-- a list that a loop makes of another, element by element: one more
+pub mapped_more : {X Y : Type 0} (f : X → Y) (xs : List X) (i : ℕ) (d : X) (y : Y) (before after : List Y) → i < length xs → y ≡ f (get_or xs i d)
+    → before ≡ map f (take i xs) → after ≡ before ++ y ∷ [] → after ≡ map f (take (i + 1) xs)
+mapped_more f xs i d y before after less is so_far pushed =
+    pushed ∙ ap (λ ys. ys ++ y ∷ []) so_far ∙ ap (λ z. map f (take i xs) ++ z ∷ []) is ∙ sym (map_more f xs i d less)

@@ -12,7 +12,7 @@ use donor_measure::{Yardsticks, whole_buckets_between};
 use edit_model::FieldSet;
 
 /// A kept numerical field, with its weight and its scale, by which its buckets are counted.
-#[derive(Clone, Copy, Debug, PartialEq, Eq)]
+#[derive(Clone, Copy)]
 pub(crate) struct Axis {
     pub field: u32,
     pub weight: u32,

@@ -11,7 +11,7 @@ ghost use Rattle.donor_search.specs.inner.Candidates.{IsClosedAt, IsOpenOrReache
 use foundation::OutOfMemory;
 
 /// A donor with its distance from the record for which donors are ranked.
-#[derive(Clone, Copy, Debug, PartialEq, Eq)]
+#[derive(Clone, Copy)]
 pub(crate) struct Candidate {
     pub distance: u64,
     pub donor: u32,

@@ -15,7 +15,7 @@ use record_text::Sheet;
 use std::alloc::Global;
 
 /// An imputation class: the rows that have the code of the number `code` at the class field `field`.
-#[derive(Clone, Copy, Debug, PartialEq, Eq)]
+#[derive(Clone, Copy)]
 pub(crate) struct Class {
     pub field: u32,
     pub code: u8,

@@ -18,10 +18,10 @@ use crate::search::{Search, block_at, first_marks_in_walk, marks_in_walk};
 use crate::slot::Slot;
 use crate::span::Span;
 use edit_model::Value;
+use std::alloc::AllocError;
 
 /// What donors are passed over by, in a walk along the slots of a field. Those are passed over that are
 /// farther than `most` from the record of the search. `own` has that record's marks with their weights.
-#[derive(Clone, Copy)]
 pub(crate) struct Passing<'a, F> {
     pub search: &'a Search<'a, F>,
     pub own: &'a [Weighed],
@@ -29,6 +29,15 @@ pub(crate) struct Passing<'a, F> {
     pub slots: &'a [Slot],
     pub most: u64,
 }
+
+// By hand, since a derived `clone` has a way out behind each field, which takes long to prove.
+impl<F> Clone for Passing<'_, F> {
+    fn clone(&self) -> Result<Self, AllocError> {
+        Ok(*self)
+    }
+}
+
+impl<F> Copy for Passing<'_, F> {}
 
 /// The span of slots of `field` that was walked over, widened on the side of `place`, which is next to it.
 /// It is widened by donors that follow one another and are farther than the last of the nearest, as their

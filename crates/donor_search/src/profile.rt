@@ -18,7 +18,7 @@ use std::marker::Model;
 
 /// The mark of a record at a field, with the weight that counts there. Where the field is not kept, both
 /// are 0.
-#[derive(Clone, Copy, Debug, PartialEq, Eq)]
+#[derive(Clone, Copy)]
 pub(crate) struct Weighed {
     pub weight: u16,
     pub mark: u16,

@@ -19,11 +19,11 @@ use donor_measure::Measure;
 use edit_model::{FieldSet, Row, Value};
 use foundation::{OutOfMemory, Steps};
 use record_text::Sheet;
+use std::alloc::AllocError;
 use std::sync::ledger::Ledger;
 
 /// What donors are ranked by. Of the deck's donors, which are rows of the sheet, the `near` nearest are
 /// looked for. They are compared with `row` by their distance over the kept fields.
-#[derive(Clone, Copy)]
 pub(crate) struct Search<'a, F> {
     pub deck: &'a Deck,
     pub sheet: &'a Sheet,
@@ -32,6 +32,22 @@ pub(crate) struct Search<'a, F> {
     pub kept: FieldSet,
     pub near: usize,
 }
+
+// By hand, since a derived `clone` has a way out behind each field, which takes long to prove.
+impl<F> Clone for Search<'_, F> {
+    fn clone(&self) -> Result<Self, AllocError> {
+        Ok(Search {
+            deck: self.deck,
+            sheet: self.sheet,
+            measure: self.measure,
+            row: self.row,
+            kept: self.kept,
+            near: self.near,
+        })
+    }
+}
+
+impl<F> Copy for Search<'_, F> {}
 
 /// Ranks one more donor: puts it at its place among the best, of which no more than `near` stay. `marks` are
 /// the donor's, and `profile` has the record's (`IsProfile`). It is not measured where these tell that it

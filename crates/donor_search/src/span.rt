@@ -10,7 +10,7 @@ ghost use Rattle.donor_search.specs.inner.Spans.{IsNext, IsSpan, IsWider};
 use crate::slot::Slot;
 
 /// The slots from `low` up to `high`, without that.
-#[derive(Clone, Copy, Debug, PartialEq, Eq)]
+#[derive(Clone, Copy)]
 pub(crate) struct Span {
     pub low: usize,
     pub high: usize,
