@@ -16,7 +16,7 @@ use fraction128::{Fraction, Overflow};
 use std::cmp::Ordering;
 
 /// A bound of a field's numbers: a lower or an upper one.
-#[derive(Clone, Copy, Debug, PartialEq, Eq)]
+#[derive(Clone, Copy)]
 pub struct Bound {
     /// Where the numbers end.
     pub at: Fraction,
@@ -27,7 +27,7 @@ pub struct Bound {
 }
 
 /// The bounds of a field's numbers, where there are such.
-#[derive(Clone, Copy, Debug, PartialEq, Eq)]
+#[derive(Clone, Copy)]
 pub struct Bounds {
     pub lower: Option<Bound>,
     pub upper: Option<Bound>,

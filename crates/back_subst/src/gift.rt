@@ -4,7 +4,7 @@ use edit_model::Row;
 use foundation::{OutOfMemory, Sequence};
 
 /// How the value at a changed field was found.
-#[derive(Clone, Copy, Debug, PartialEq, Eq)]
+#[derive(Clone, Copy)]
 pub enum How {
     /// It is the donor's.
     Donor,
@@ -15,14 +15,14 @@ pub enum How {
 }
 
 /// A record that was given values, and how each was found: one `How` for each changed field, in path order.
-#[derive(Debug, Drop)]
+#[derive(Drop)]
 pub struct Gift {
     pub row: Row,
     pub how: Sequence<How>,
 }
 
 /// Why no values are given.
-#[derive(Clone, Copy, Debug, PartialEq, Eq)]
+#[derive(Clone, Copy)]
 pub enum GiveFault {
     /// A number of a bound of the field leaves the range. The line at this place gives the bound, in the
     /// system by which the field is given its number.

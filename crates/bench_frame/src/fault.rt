@@ -7,7 +7,7 @@ use foundation::OutOfMemory;
 use std::alloc::{AllocError, AllocFailed};
 
 /// Why a bench does not tell what it was asked for.
-#[derive(Clone, Copy, Debug, PartialEq, Eq)]
+#[derive(Clone, Copy)]
 pub enum Fault {
     /// The words are not in form.
     Usage,

@@ -5,7 +5,7 @@ use derivation::Step;
 use foundation::Sequence;
 
 /// Why no correction along a leaf's path weighs less than the tree says.
-#[derive(Debug, Drop)]
+#[derive(Drop)]
 pub enum LeafWhy {
     /// The path itself weighs enough.
     Bound,
@@ -18,14 +18,14 @@ pub enum LeafWhy {
 }
 
 /// A leaf of a tree of paths.
-#[derive(Debug, Drop)]
+#[derive(Drop)]
 pub struct Leaf {
     pub path: Path,
     pub why: LeafWhy,
 }
 
 /// A proof tree: its leaves, in the order of their paths, kept before changed.
-#[derive(Debug, Drop)]
+#[derive(Drop)]
 pub struct Cert {
     pub leaves: Sequence<Leaf>,
 }

@@ -3,7 +3,7 @@ use foundation::OutOfMemory;
 use std::{error, fmt};
 
 /// Why a tree is not accepted.
-#[derive(Clone, Copy, Debug, PartialEq, Eq)]
+#[derive(Clone, Copy, Debug)]
 pub enum CertFault {
     /// The first leaf, from 0, whose path is not the next of a full tree, or which is not valid. Of one that
     /// is not valid also its first step, from 0, that is not, if there is one. For no leaves the leaf is 0.

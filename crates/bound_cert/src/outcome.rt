@@ -5,7 +5,7 @@ use crate::path::Path;
 use edit_line::Place;
 
 /// The first number that left the range in a search.
-#[derive(Clone, Copy, Debug, PartialEq, Eq)]
+#[derive(Clone, Copy)]
 pub enum Event {
     /// A number of the combination of two lines, at this place of it. The lines are named by their places,
     /// from 0, in the system before the path's last field was eliminated.
@@ -23,7 +23,7 @@ pub enum Event {
 }
 
 /// What is found of a record.
-#[derive(Debug, Drop)]
+#[derive(Drop)]
 pub enum Outcome {
     /// A correction changes the fields that the path changes; it has this weight, and the tree shows that
     /// none is lighter.
@@ -38,7 +38,7 @@ pub enum Outcome {
 }
 
 /// Why the fields of a change are given no values: the first number that left the range.
-#[derive(Clone, Copy, Debug, PartialEq, Eq)]
+#[derive(Clone, Copy)]
 pub enum GiftFault {
     /// The bound that the line at this place sets for the field.
     Bound { field: u32, line: u64 },
@@ -48,7 +48,7 @@ pub enum GiftFault {
 
 /// What a proof file says of a record: what was found, and why no values were given where a number left the
 /// range.
-#[derive(Debug, Drop)]
+#[derive(Drop)]
 pub struct RowProof {
     pub outcome: Outcome,
     pub gift: Option<GiftFault>,

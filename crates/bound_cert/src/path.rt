@@ -12,7 +12,7 @@ use std::marker::Model;
 
 /// A path: it says of the first fields in path order, numerical before categorical, whether each is kept
 /// (false) or changed (true).
-#[derive(Debug, Drop)]
+#[derive(Drop)]
 pub struct Path {
     letters: Vec<bool>,
 }

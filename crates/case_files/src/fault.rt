@@ -4,7 +4,7 @@ use foundation::OutOfMemory;
 use std::alloc::{AllocError, AllocFailed};
 
 /// Why a run of cases ends before all are run.
-#[derive(Clone, Copy, Debug, PartialEq, Eq)]
+#[derive(Clone, Copy)]
 pub enum Fault {
     /// Memory was refused.
     OutOfMemory,
@@ -41,7 +41,7 @@ impl From<PrintFailed> for Fault {
 }
 
 /// What is not in form in a line of a file of cases.
-#[derive(Clone, Copy, Debug, PartialEq, Eq)]
+#[derive(Clone, Copy)]
 pub enum Kind {
     /// The line is no UTF-8.
     NoText,
@@ -72,7 +72,7 @@ impl Kind {
 }
 
 /// Why a file of cases has no reading.
-#[derive(Clone, Copy, Debug, PartialEq, Eq)]
+#[derive(Clone, Copy)]
 pub enum FormFault {
     /// A line, by its number from 1, is not in form.
     Line { number: u64, kind: Kind },
@@ -81,7 +81,7 @@ pub enum FormFault {
 }
 
 /// Why a part of a line is not read.
-#[derive(Clone, Copy, Debug, PartialEq, Eq)]
+#[derive(Clone, Copy)]
 pub enum PartFault {
     /// It is not in form.
     Form { kind: Kind },

@@ -7,7 +7,7 @@ use foundation::OutOfMemory;
 use std::alloc::Global;
 
 /// What becomes of a line.
-#[derive(Debug, Drop)]
+#[derive(Drop)]
 pub enum Change {
     /// The text stands in its place.
     Replace { text: Vec<u8> },
@@ -18,7 +18,7 @@ pub enum Change {
 }
 
 /// A change of the line of this number, from 1. A text may stand behind line 0, before the first.
-#[derive(Debug, Drop)]
+#[derive(Drop)]
 pub struct LineEdit {
     line: u64,
     change: Change,

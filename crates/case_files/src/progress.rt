@@ -5,7 +5,7 @@ ghost use Rattle.std.specs.Prelude.{◌≡◌, ◌↔◌, ◌<◌, ◌≤◌, Is
 /// behind it up to the next such command. The first case of a file also has the commands before it. A
 /// case fails where an output of these is another than was to come. A file that is not run counts as a
 /// case that failed.
-#[derive(Clone, Copy, Debug, PartialEq, Eq)]
+#[derive(Clone, Copy)]
 pub struct Count {
     pub passed: u64,
     pub failed: u64,
@@ -53,7 +53,7 @@ impl Count {
 
 /// How far the commands of a file are done: how many cases were begun, and how many of them failed.
 /// `failing` says whether the case that was begun last did.
-#[derive(Clone, Copy, Debug, PartialEq, Eq)]
+#[derive(Clone, Copy)]
 pub struct Progress {
     cases: u64,
     failed: u64,

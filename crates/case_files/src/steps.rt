@@ -22,7 +22,7 @@ pub struct Step<'a> {
 }
 
 /// What the next line of a file of cases may be, by the lines before it.
-#[derive(Clone, Copy, Debug, PartialEq, Eq)]
+#[derive(Clone, Copy)]
 enum Place {
     /// Commentary or a command; output would be of no command.
     Apart,

@@ -9,7 +9,7 @@ use foundation::{OutOfMemory, Sequence};
 use std::alloc::Global;
 
 /// Where a box comes from. Places are those in the list that the call took, from 0.
-#[derive(Debug, Drop)]
+#[derive(Drop)]
 pub enum BoxOrigin {
     /// The failing line at this place.
     Failing(u64),
@@ -23,7 +23,7 @@ pub enum BoxOrigin {
 }
 
 /// A box of codes with its origin.
-#[derive(Debug, Drop)]
+#[derive(Drop)]
 pub struct BoxFrom {
     pub code_box: CodeBox,
     pub origin: BoxOrigin,

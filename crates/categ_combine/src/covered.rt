@@ -3,7 +3,7 @@ use crate::box_from::BoxFrom;
 use foundation::Sequence;
 
 /// What the elimination of a categorical field gives.
-#[derive(Debug, Drop)]
+#[derive(Drop)]
 pub enum Covered {
     /// The boxes without the field, and how many pairs of a cover and a box were looked at.
     Done {

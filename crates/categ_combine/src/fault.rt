@@ -3,7 +3,7 @@ use foundation::OutOfMemory;
 use std::{error, fmt};
 
 /// Why the boxes of a record are not made.
-#[derive(Clone, Copy, Debug, PartialEq, Eq)]
+#[derive(Clone, Copy, Debug)]
 pub enum BoxFault {
     /// The sum of the line at this place, from 0, leaves the range, first at the field of this number,
     /// from 0. No earlier line's sum does.

@@ -30,7 +30,7 @@ use foundation::{OutOfMemory, Sequence};
 use std::alloc::Global;
 
 // The covers that are made of the boxes, and how many pairs of a cover and a box were looked at for them.
-#[derive(Debug, Drop)]
+#[derive(Drop)]
 struct Covers {
     boxes: Vec<BoxFrom>,
     pairs: u64,

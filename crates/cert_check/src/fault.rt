@@ -3,7 +3,7 @@ use foundation::OutOfMemory;
 use std::{error, fmt};
 
 /// Which condition of a valid release fails.
-#[derive(Clone, Copy, Debug, PartialEq, Eq)]
+#[derive(Clone, Copy, Debug)]
 pub enum Why {
     /// The bytes are no proof: the line is the first that can't go on.
     Grammar,
@@ -44,7 +44,7 @@ impl fmt::Display for Why {
 }
 
 /// Why files are no valid release.
-#[derive(Clone, Copy, Debug, PartialEq, Eq)]
+#[derive(Clone, Copy, Debug)]
 pub enum CheckFault {
     /// The line of the proof file, from 1, at which the first condition fails, and which condition that
     /// is. Line 0 is the released file as a whole.

@@ -23,7 +23,7 @@ use std::alloc::Global;
 
 /// The first fault of what a proof says of records, and why it is one. `offset` is how many lines behind
 /// the head of a record it stands; of all records, behind the head of the first.
-#[derive(Clone, Copy, Debug, PartialEq, Eq)]
+#[derive(Clone, Copy)]
 pub(crate) struct RowFault {
     pub(crate) offset: u64,
     pub(crate) why: Why,

@@ -13,7 +13,7 @@ use std::alloc::Global;
 /// A certificate that is asked for. It has the leaves of the full tree of this depth, each closed by
 /// `steps` steps, which all name the one given line. In a broken one the last step of the last leaf
 /// names a line that is not there.
-#[derive(Clone, Copy, Debug, PartialEq, Eq)]
+#[derive(Clone, Copy)]
 pub struct Plan {
     pub depth: u32,
     pub steps: u64,

@@ -20,7 +20,7 @@ use ticket_row::{Seat, Tickets};
 const LIMIT: u32 = 1;
 
 /// How many tickets there are, each the number of a row that claims, and how many threads draw them.
-#[derive(Clone, Copy, Debug, PartialEq, Eq)]
+#[derive(Clone, Copy)]
 pub struct Plan {
     pub count: u32,
     pub threads: u32,

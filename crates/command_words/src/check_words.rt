@@ -15,7 +15,7 @@ use std::alloc::Global;
 use std::marker::Model;
 
 /// What the command `check` was asked for. No two names lead to one file.
-#[derive(Debug, Drop)]
+#[derive(Drop)]
 pub struct CheckWords<'a> {
     /// The file of the rules.
     pub rules: &'a str,

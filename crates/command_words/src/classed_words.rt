@@ -16,7 +16,7 @@ use std::marker::Model;
 
 /// What the command `classed` was asked for: an edit, and a field's name, which is not compared with the
 /// names of files.
-#[derive(Debug, Drop)]
+#[derive(Drop)]
 pub struct ClassedWords<'a> {
     /// The edit.
     pub edit: EditWords<'a>,

@@ -43,7 +43,7 @@ const LEAST_NEAR: u64 = 1;
 const MOST_NEAR: u64 = 64;
 
 /// What an edit was asked for, by the command `edit` or by `classed`. No two names lead to one file.
-#[derive(Debug, Drop)]
+#[derive(Drop)]
 pub struct EditWords<'a> {
     /// The file of the rules.
     pub rules: &'a str,

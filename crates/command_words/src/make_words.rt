@@ -33,7 +33,7 @@ const LEAST_ROWS: u64 = 1;
 const MOST_ROWS: u64 = 200_000;
 
 /// What the command `make` was asked for. The two names lead to two files.
-#[derive(Debug, Drop)]
+#[derive(Drop)]
 pub struct MakeWords<'a> {
     /// The file that the rules go to.
     pub rules: &'a str,

@@ -14,7 +14,7 @@ use std::alloc::Global;
 use std::marker::Model;
 
 /// What the command `page` was asked for. No two names lead to one file.
-#[derive(Debug, Drop)]
+#[derive(Drop)]
 pub struct PageWords<'a> {
     /// The file of the rules.
     pub rules: &'a str,

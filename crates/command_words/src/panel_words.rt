@@ -17,7 +17,7 @@ use std::marker::Model;
 
 /// What the command `panel` was asked for. No two names of files lead to one file; the column's name is not
 /// compared with them.
-#[derive(Debug, Drop)]
+#[derive(Drop)]
 pub struct PanelWords<'a> {
     /// The file of the rules.
     pub rules: &'a str,

@@ -13,7 +13,7 @@ use std::alloc::Global;
 use std::marker::Model;
 
 /// What the command `rules` was asked for.
-#[derive(Debug, Drop)]
+#[derive(Drop)]
 pub struct RulesWords<'a> {
     /// The file of the rules.
     pub rules: &'a str,

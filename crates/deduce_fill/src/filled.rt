@@ -6,7 +6,7 @@ use foundation::Sequence;
 
 /// A field without a value, the value that the rules force there, and what shows it. The proofs are one for
 /// each line that would make the value another one: steps that refute it.
-#[derive(Debug, Drop)]
+#[derive(Drop)]
 pub struct Forced {
     pub field: u32,
     pub value: Value,
@@ -14,7 +14,7 @@ pub struct Forced {
 }
 
 /// What becomes of a record whose fields without a value are to be filled.
-#[derive(Debug, Drop)]
+#[derive(Drop)]
 pub enum Filled {
     /// The record with the values that are forced, and a list of these.
     Done { row: Row, forced: Sequence<Forced> },

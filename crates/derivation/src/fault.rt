@@ -4,7 +4,7 @@ use std::alloc::{AllocError, AllocFailed};
 use std::{error, fmt};
 
 /// Why a list of steps proves nothing.
-#[derive(Clone, Copy, Debug, PartialEq, Eq)]
+#[derive(Clone, Copy, Debug)]
 pub enum StepsFault {
     /// The step at this place, from 0, is the first that is not valid. For no steps the place is 0.
     Bad { place: u64 },

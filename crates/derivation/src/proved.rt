@@ -2,7 +2,7 @@
 use edit_line::{CodeBox, Line};
 
 /// What a step proves.
-#[derive(Debug, Drop)]
+#[derive(Drop)]
 pub enum Proved {
     /// That the line holds.
     Line(Line),

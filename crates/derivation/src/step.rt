@@ -6,7 +6,7 @@ use std::alloc::Global;
 
 /// A step of a derivation. Places are those of given lines and of earlier steps, from 0; fields are those
 /// of the survey, from 0.
-#[derive(Debug, Drop)]
+#[derive(Drop)]
 pub enum Step {
     /// The given line at this place.
     Given(u64),

@@ -14,7 +14,7 @@ pub enum Claim {
 
 /// A row that has claimed, with the donor that it was given, or None for nobody. Rows and donors are
 /// numbered from 0.
-#[derive(Clone, Copy, Debug, PartialEq, Eq)]
+#[derive(Clone, Copy)]
 pub struct Won {
     /// The row that claimed.
     pub row_no: u32,
@@ -23,7 +23,7 @@ pub struct Won {
 }
 
 /// A claim of a donor, and its answer. Rows and donors are numbered from 0.
-#[derive(Debug, Drop)]
+#[derive(Drop)]
 pub struct Entry {
     /// The row that claims.
     pub row_no: u32,

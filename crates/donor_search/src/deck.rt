@@ -31,7 +31,7 @@ use std::sync::Arc;
 /// The donors of a sheet, or of one imputation class of it: the numbers of clean rows, in rising order.
 /// Beside them it keeps, for each numerical field, the donors in the order of their buckets there. It also
 /// keeps marks with their ranges, which tell donors that are far away. Contracts see the lists.
-#[derive(Debug, Drop)]
+#[derive(Drop)]
 pub struct Deck {
     // The donors: the numbers of their rows, in rising order.
     rows: Vec<u32>,

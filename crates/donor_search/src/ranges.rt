@@ -11,7 +11,7 @@ use std::alloc::Global;
 pub(crate) const BLOCK: usize = 32;
 
 /// The least and the greatest mark at a field in a block of donors.
-#[derive(Clone, Copy, Debug, PartialEq, Eq)]
+#[derive(Clone, Copy)]
 pub struct MarkRange {
     pub low: u16,
     pub high: u16,

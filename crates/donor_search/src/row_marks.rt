@@ -16,7 +16,7 @@ use std::marker::Model;
 
 /// The marks of all rows of a sheet, one row after the other, by which donors are told that are far away.
 /// Each row has one mark for each field. The decks of one sheet share them.
-#[derive(Debug, Drop)]
+#[derive(Drop)]
 pub struct RowMarks {
     marks: Vec<u16>,
 }

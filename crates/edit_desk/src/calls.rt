@@ -17,7 +17,7 @@ use foundation::OutOfMemory;
 use std::alloc::{AllocError, Global};
 
 /// Why a fetch gave no bytes.
-#[derive(Clone, Copy, Debug, PartialEq, Eq)]
+#[derive(Clone, Copy, Debug)]
 pub enum FetchError {
     /// The file is not there, or could not be read.
     Failed,
@@ -28,7 +28,7 @@ pub enum FetchError {
 }
 
 /// Why a store did not put all the bytes.
-#[derive(Clone, Copy, Debug, PartialEq, Eq)]
+#[derive(Clone, Copy, Debug)]
 pub enum StoreError {
     /// The file could not be written. Some first bytes of it may stand there.
     Failed,

@@ -17,7 +17,7 @@ use std::collections::BTreeMap;
 use std::marker::Model;
 
 /// A call that is to fail, by its number: fetches and stores are counted together, from 1.
-#[derive(Clone, Copy, Debug, PartialEq, Eq)]
+#[derive(Clone, Copy)]
 pub struct Failure {
     /// The number of the call.
     pub call: u64,
@@ -26,7 +26,7 @@ pub struct Failure {
 }
 
 /// One call on record: whether it was a store or a fetch, under which name, and whether it failed.
-#[derive(Debug, Drop)]
+#[derive(Drop)]
 pub struct Call {
     pub store: bool,
     pub name: String,

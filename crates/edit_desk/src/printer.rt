@@ -10,7 +10,7 @@ ghost use Rattle.edit_desk.specs.Desk.{Told};
 ghost use Rattle.edit_desk.specs.Printer.{Prints, after_line};
 
 /// A line was not printed as a whole.
-#[derive(Clone, Copy, Debug, PartialEq, Eq)]
+#[derive(Clone, Copy)]
 pub struct PrintFailed;
 
 /// A place that lines are printed to.

@@ -8,7 +8,7 @@ use std::env::Args;
 use std::io::{self, ErrorKind};
 
 /// Why there are no words.
-#[derive(Clone, Copy, Debug, PartialEq, Eq)]
+#[derive(Clone, Copy)]
 pub enum WordsFault {
     /// One of them is no text.
     NotText,

@@ -8,7 +8,7 @@ use crate::printer::PrintFailed;
 use std::io::{ErrorKind, Write};
 
 /// A writer did not take all the bytes; it may have taken some first ones.
-#[derive(Clone, Copy, Debug, PartialEq, Eq)]
+#[derive(Clone, Copy)]
 pub struct NotWritten;
 
 impl From<NotWritten> for StoreError {

@@ -14,7 +14,7 @@ use std::alloc::Global;
 use std::marker::Model;
 
 /// Distinct codes, in the order in which they were put in.
-#[derive(Debug, Drop)]
+#[derive(Drop)]
 struct CodeTable {
     codes: IndexSet<Vec<u8>>,
 }

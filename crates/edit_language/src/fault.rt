@@ -7,7 +7,7 @@ use std::alloc::{AllocError, AllocFailed};
 use std::{error, fmt};
 
 /// What is wrong with a line of a rule text.
-#[derive(Clone, Copy, Debug, PartialEq, Eq)]
+#[derive(Clone, Copy, Debug)]
 pub enum RulesKind {
     /// A byte outside a comment is neither printable ASCII nor a tab.
     BadByte,
@@ -72,7 +72,7 @@ impl fmt::Display for RulesKind {
 }
 
 /// Why a rule text was not read.
-#[derive(Clone, Copy, Debug, PartialEq, Eq)]
+#[derive(Clone, Copy, Debug)]
 pub enum RulesFault {
     /// The first line, from 1, that has a fault, and the least kind of fault that it has.
     At { line: u32, kind: RulesKind },

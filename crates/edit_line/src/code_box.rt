@@ -15,7 +15,7 @@ use std::marker::Model;
 
 /// A box of codes: a set, as bits, for each categorical field in declared order. No set is empty or has
 /// a code that the field has not.
-#[derive(Debug, Drop)]
+#[derive(Drop)]
 pub struct CodeBox {
     sets: Vec<u64>,
     shape: Shape,

@@ -6,7 +6,7 @@ use foundation::OutOfMemory;
 use std::alloc::Global;
 
 /// Where a line comes from. Places are those in the list that the step took, from 0.
-#[derive(Clone, Copy, Debug, PartialEq, Eq)]
+#[derive(Clone, Copy)]
 pub enum Origin {
     /// The edit of this number.
     Base(u64),
@@ -23,7 +23,7 @@ pub enum Origin {
 }
 
 /// A line with its origin.
-#[derive(Debug, Drop)]
+#[derive(Drop)]
 pub struct Derived {
     pub line: Line,
     pub origin: Origin,

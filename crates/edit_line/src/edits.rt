@@ -19,7 +19,7 @@ use std::marker::Model;
 
 /// Numbered lines over a survey's fields, and the lines that elimination begins with, which are these
 /// reduced. Each number is greater than those before it.
-#[derive(Debug, Drop)]
+#[derive(Drop)]
 pub struct Edits {
     shape: Shape,
     lines: Vec<(u32, Line)>,

@@ -23,7 +23,7 @@ use std::marker::Model;
 
 /// Lines that are kept, in order, as more are taken in. Beside each stands the key of its factors, so that
 /// lines are compared only where these agree.
-#[derive(Debug, Drop)]
+#[derive(Drop)]
 pub struct Kept {
     lines: Vec<Derived>,
     keys: Vec<u64>,

@@ -26,7 +26,7 @@ use std::marker::Model;
 /// factor for each numerical one, both in declared order. No set is empty or has a code that the field
 /// has not, and each number is of absolute value at most `2^127 - 1`. An equality, whose sum has to be 0,
 /// has whole sets: it is asked for all codes.
-#[derive(Debug, Drop)]
+#[derive(Drop)]
 pub struct Line {
     sets: Vec<u64>,
     factors: Vec<i128>,

@@ -5,7 +5,7 @@ ghost use Rattle.std.specs.Fmt.{decimal};
 use std::{error, fmt};
 
 /// A number of a line's sum at a record leaves the range, first at the field of this number, from 0.
-#[derive(Clone, Copy, Debug, PartialEq, Eq)]
+#[derive(Clone, Copy, Debug)]
 pub struct LineOverflow {
     pub field: u32,
 }

@@ -7,7 +7,7 @@ ghost use Rattle.edit_line.specs.Negations.{contrary_relation};
 ghost use Rattle.edit_line.specs.Subsumption.{implies, is_enough};
 
 /// What a line asks of its sum.
-#[derive(Clone, Copy, Debug, PartialEq, Eq)]
+#[derive(Clone, Copy)]
 pub enum Relation {
     /// The sum is at least 0.
     AtLeast,

@@ -10,7 +10,7 @@ use std::alloc::Global;
 
 /// A survey's shape: for each field its kind and, where it is categorical, its number of codes. It takes
 /// no memory. Contracts see `domains shape`.
-#[derive(Clone, Copy, Debug, PartialEq, Eq)]
+#[derive(Clone, Copy, PartialEq, Eq)]
 pub struct Shape {
     count: usize,
     codes: [u8; 64],

@@ -3,7 +3,7 @@ use foundation::OutOfMemory;
 use std::{error, fmt};
 
 /// Why there is no survey of the given parts.
-#[derive(Clone, Copy, Debug, PartialEq, Eq)]
+#[derive(Clone, Copy, Debug)]
 pub enum SurveyFault {
     /// The parts are not those of a well-formed survey.
     Malformed,

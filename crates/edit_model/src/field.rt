@@ -6,7 +6,7 @@ use crate::name::Name;
 use foundation::Sequence;
 
 /// What values a field takes.
-#[derive(Debug, Drop)]
+#[derive(Drop)]
 pub enum Kind {
     /// A numerical field. The scale, from 1 to 10^12, is the unit in which distances are measured.
     Number { scale: u64 },
@@ -25,7 +25,7 @@ impl Kind {
 
 /// A field of a survey. The weight, from 1 to 1000, is the price of changing it: the more reliable a
 /// field is held to be, the greater.
-#[derive(Debug, Drop)]
+#[derive(Drop)]
 pub struct Field {
     pub name: Name,
     pub weight: u32,

@@ -6,7 +6,7 @@ ghost use Rattle.edit_model.specs.FieldSets.{has_number, with_number, without_nu
 use std::marker::Model;
 
 /// A set of field numbers below 64.
-#[derive(Clone, Copy, Debug, PartialEq, Eq)]
+#[derive(Clone, Copy)]
 pub struct FieldSet {
     bits: u64,
 }

@@ -8,7 +8,7 @@ use std::marker::Model;
 const LONGEST: usize = 32;
 
 /// The name of a field, or a code: 1 to 32 bytes.
-#[derive(Debug, Drop)]
+#[derive(Drop)]
 pub struct Name {
     bytes: [u8; 32],
     size: u8,

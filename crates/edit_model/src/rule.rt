@@ -3,7 +3,7 @@
 use foundation::Sequence;
 
 /// How a sum is compared with 0: at least 0, above 0, at most 0, below 0, or equal to 0.
-#[derive(Clone, Copy, Debug, PartialEq, Eq)]
+#[derive(Clone, Copy)]
 pub enum Compare {
     Ge,
     Gt,
@@ -13,7 +13,7 @@ pub enum Compare {
 }
 
 /// A factor, not 0 and at most 10^9 in absolute value, of the field with this number, from 0.
-#[derive(Clone, Copy, Debug, PartialEq, Eq)]
+#[derive(Clone, Copy)]
 pub struct Term {
     pub field: u32,
     pub factor: i64,
@@ -21,7 +21,7 @@ pub struct Term {
 
 /// The test that the sum of factor * value, and the constant, compares with 0. Terms are in field order;
 /// the constant is at most 10^15 in absolute value.
-#[derive(Debug, Drop)]
+#[derive(Drop)]
 pub struct Linear {
     pub terms: Sequence<Term>,
     pub constant: i64,
@@ -29,7 +29,7 @@ pub struct Linear {
 }
 
 /// One test of a rule.
-#[derive(Debug, Drop)]
+#[derive(Drop)]
 pub enum Test {
     Number(Linear),
     /// The field's code is one of the set; or it is none of them where the test is negated. Bit c of the
@@ -42,7 +42,7 @@ pub enum Test {
 }
 
 /// An edit: IF all conditions are true THEN the conclusion is.
-#[derive(Debug, Drop)]
+#[derive(Drop)]
 pub struct Rule {
     pub conditions: Sequence<Test>,
     pub conclusion: Test,

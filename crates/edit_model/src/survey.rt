@@ -17,7 +17,7 @@ use std::marker::Model;
 
 /// A questionnaire's fields and the edit rules over them, in declared order. It is well formed. Beside
 /// them stand the numbers of the numerical and of the categorical fields.
-#[derive(Debug, Drop)]
+#[derive(Drop)]
 pub struct Survey {
     fields: Vec<Field>,
     rules: Vec<Rule>,

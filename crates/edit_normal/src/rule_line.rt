@@ -3,7 +3,7 @@ use edit_line::Line;
 use edit_model::Rule;
 
 /// A line of the normal form of a rule, with the rule's number, from 0.
-#[derive(Debug, Drop)]
+#[derive(Drop)]
 pub struct RuleLine {
     pub rule: u32,
     pub line: Line,

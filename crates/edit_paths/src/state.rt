@@ -6,7 +6,7 @@ ghost use Rattle.edit_paths.specs.PathStates.{is_closed, is_open};
 use bound_cert::Event;
 
 /// What becomes of a path. Places are those in its system or its boxes, from 0.
-#[derive(Clone, Copy, Debug, PartialEq, Eq)]
+#[derive(Clone, Copy)]
 pub enum PathState {
     /// It is neither closed nor past the range.
     Open,

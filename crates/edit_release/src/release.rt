@@ -2,7 +2,7 @@
 
 /// What an edit of a sheet gives: the bytes of its three files, its two summary lines, and whether every
 /// record was released (`whole`).
-#[derive(Debug, Drop)]
+#[derive(Drop)]
 pub struct Release {
     pub proof: Vec<u8>,
     pub reasons: Vec<u8>,

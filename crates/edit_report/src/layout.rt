@@ -12,7 +12,7 @@ use std::marker::Model;
 
 /// Which field stands in which column of a file's rows, both ways: for each field its column, and for each
 /// column its field.
-#[derive(Debug, Drop)]
+#[derive(Drop)]
 pub struct Layout {
     columns: Sequence<u32>,
     fields: Vec<Option<usize>>,

@@ -22,7 +22,7 @@ const FIRST_DRAW: u32 = 1;
 /// is eliminated, each of its n - 1 lower lines is combined with each of its n - 1 upper ones. Of these
 /// pairs n - 1 give trivial lines, and of two lines on the same two fields the tighter stays. So a
 /// system of the same form over n - 1 fields is left, where no set of codes stands in a line.
-#[derive(Clone, Copy, Debug, PartialEq, Eq)]
+#[derive(Clone, Copy)]
 pub enum Differences {
     /// Over 32 fields, whatever the code.
     Plain,

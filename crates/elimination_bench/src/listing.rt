@@ -14,7 +14,7 @@ use foundation::OutOfMemory;
 use std::alloc::Global;
 
 /// What steps a list has.
-#[derive(Clone, Copy, Debug, PartialEq, Eq)]
+#[derive(Clone, Copy)]
 pub enum Listing {
     /// Given lines alone, in turn.
     Given,

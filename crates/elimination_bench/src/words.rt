@@ -12,7 +12,7 @@ use bench_frame::number_in;
 const MOST_STEPS: u64 = 10_000_000;
 
 /// What is asked of the bench.
-#[derive(Clone, Copy, Debug, PartialEq, Eq)]
+#[derive(Clone, Copy)]
 pub enum Task {
     /// The derived system without its first fields, by their number.
     Fold(Differences, u32),

@@ -5,6 +5,7 @@ ghost use Rattle.std.specs.Arc.{arc_value};
 ghost use Rattle.edit_line.specs.Shapes.{Numerical, domain_of, shape_of};
 
 use categ_combine::{BoxFrom, BoxOrigin};
+use derivation::Step;
 use edit_line::{CodeBox, Edits, Line, Relation, Shape};
 use edit_model::{Field, FieldSet, Kind, Name, Survey};
 use edit_paths::{Level, write_steps};
@@ -121,10 +122,12 @@ fn a_line_that_two_boxes_come_from_is_given_once(rt: HostRuntime) -> Result<(), 
     let alloc = rt.alloc();
     let survey = survey_of_one(alloc)?;
     let steps = write_steps(alloc, &test_levels(alloc, &survey)?, 0)?;
-    let text = format!(in alloc; "{:?}", steps.as_slice())?;
-    assert_eq!(rt;
-        text.as_str(),
-        "[Given(7), Fail(0), Fail(0), Cover { field: 1, parts: Sequence { items: [1, 2, 1] } }]"
-    );
+    let is_as_expected = match steps.as_slice() {
+        [Step::Given(7), Step::Fail(0), Step::Fail(0), Step::Cover { field: 1, parts }] => {
+            parts.as_slice() == [1, 2, 1].as_slice()
+        }
+        _ => false,
+    };
+    assert!(rt; is_as_expected);
     Ok(())
 }

@@ -26,7 +26,7 @@ use std::sync::Arc;
 use std::sync::ledger::{Blank, Ledger};
 
 /// What filling makes of the records of a file.
-#[derive(Debug, Drop)]
+#[derive(Drop)]
 pub struct FilledFile {
     /// The bytes of the released file: every record, with the values that are forced.
     pub released: Vec<u8>,

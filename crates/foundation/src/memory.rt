@@ -3,7 +3,7 @@ use std::alloc::{AllocError, AllocFailed};
 use std::{error, fmt};
 
 /// Memory was refused. Any call that takes memory may answer so: no contract ties this answer to a cause.
-#[derive(Clone, Copy, Debug, PartialEq, Eq)]
+#[derive(Clone, Copy, Debug)]
 pub struct OutOfMemory;
 
 impl fmt::Display for OutOfMemory {

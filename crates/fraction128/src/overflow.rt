@@ -3,7 +3,7 @@ use std::{error, fmt};
 
 /// A number that a call has to form is out of range: its absolute value is above `2^127 - 1`. The call's
 /// own comment says which numbers these are.
-#[derive(Clone, Copy, Debug, PartialEq, Eq)]
+#[derive(Clone, Copy, Debug)]
 pub struct Overflow;
 
 impl fmt::Display for Overflow {

@@ -6,7 +6,7 @@ use std::alloc::{AllocError, AllocFailed};
 use std::{error, fmt};
 
 /// Why a call is not made.
-#[derive(Clone, Copy, Debug, PartialEq, Eq)]
+#[derive(Clone, Copy, Debug)]
 pub enum CallFault {
     /// There is no such call, or it takes other words.
     Words,

@@ -11,7 +11,7 @@ use std::alloc::AllocFailed;
 use std::{error, fmt};
 
 /// Why a step has no lines.
-#[derive(Clone, Copy, Debug, PartialEq, Eq)]
+#[derive(Clone, Copy, Debug)]
 pub enum StepFault {
     /// A number of the combination of two lines is out of range. The lines are named by their places in
     /// the list that the step took.
@@ -42,7 +42,7 @@ impl fmt::Display for StepFault {
 impl error::Error for StepFault {}
 
 /// Why there is no system.
-#[derive(Clone, Copy, Debug, PartialEq, Eq)]
+#[derive(Clone, Copy, Debug)]
 pub enum SystemFault {
     /// In the step at this field a number of the combination of two lines is out of range. The lines are
     /// named by their places in the list that the step took.

@@ -83,7 +83,7 @@ pub trait Systems {
 }
 
 /// The source that folds each system anew, and counts one step for each pair that its fold combines.
-#[derive(Clone, Copy, Debug, PartialEq, Eq)]
+#[derive(Clone, Copy)]
 pub struct Recompute;
 
 impl Systems for Recompute {

@@ -14,7 +14,7 @@ use std::marker::Model;
 const OF_RECORDS: &[u8] = b"fault: records ";
 
 /// Why the released file or the reasons do not fit the records of an edit.
-#[derive(Debug, Drop)]
+#[derive(Drop)]
 pub enum PageFault {
     /// The released file has no reading.
     Released { fault: RecordsFault },
@@ -25,7 +25,7 @@ pub enum PageFault {
 }
 
 /// Such a fault, with the line that is printed of it.
-#[derive(Debug, Drop)]
+#[derive(Drop)]
 pub(crate) struct ToldFault {
     fault: PageFault,
     line: Vec<u8>,

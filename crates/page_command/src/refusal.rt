@@ -8,7 +8,7 @@ use foundation::OutOfMemory;
 use run_parts::{Refusal, Status};
 
 /// Why the command ended before all was done.
-#[derive(Debug, Drop)]
+#[derive(Drop)]
 pub(crate) enum PageRefusal<'a> {
     /// For a fault that any command may meet.
     Shared(Refusal<'a>),

@@ -16,14 +16,14 @@ use std::collections::BTreeMap;
 
 /// The number of a record or a donor, from 0, and its amount: what its change weighs, or to how many
 /// records it gave.
-#[derive(Clone, Copy, Debug, PartialEq, Eq)]
+#[derive(Clone, Copy)]
 pub struct Amount {
     pub number: u32,
     pub size: u128,
 }
 
 /// How many have an amount of this size.
-#[derive(Clone, Copy, Debug, PartialEq, Eq)]
+#[derive(Clone, Copy)]
 pub struct SizeCount {
     pub size: u128,
     pub count: usize,

@@ -13,7 +13,7 @@ use foundation::{OutOfMemory, Sequence};
 use std::alloc::Global;
 
 /// How many values each bin has, and how many numbers are in none of them.
-#[derive(Debug, Drop)]
+#[derive(Drop)]
 pub struct BinCounts {
     pub counts: Sequence<usize>,
     pub beyond: usize,

@@ -3,7 +3,7 @@ ghost use Rattle.std.specs.Prelude.{◌≡◌, ◌*◌, ◌≤◌, ◌^◌, ◌<
 
 /// Bins of equal width over thousandths, at most 20. Bin i, from 0, has those from `low` of i on that
 /// are below `low` of i + 1. `first` is where bin 0 begins, and `count` is how many bins there are.
-#[derive(Clone, Copy, Debug, PartialEq, Eq)]
+#[derive(Clone, Copy)]
 pub struct Bins {
     pub(crate) first: i128,
     pub(crate) width: i128,

@@ -9,7 +9,7 @@ use foundation::{OutOfMemory, Sequence};
 use std::alloc::Global;
 
 /// How many values each code has, in the order of the codes, and how many values are missing (`none`).
-#[derive(Debug, Drop)]
+#[derive(Drop)]
 pub struct CodeCounts {
     pub by_code: Sequence<usize>,
     pub none: usize,

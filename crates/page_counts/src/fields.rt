@@ -6,7 +6,7 @@ use reason_lines::{Change, How};
 
 /// How many changes of a field took the donor's value (`donor`). How many took the nearest that the rules
 /// allow (`nearest`), and how many 0 or the first code (`default`).
-#[derive(Clone, Copy, Debug, PartialEq, Eq)]
+#[derive(Clone, Copy)]
 pub struct FieldCount {
     pub donor: usize,
     pub nearest: usize,

@@ -8,7 +8,7 @@ use reason_lines::{Cause, Change, LeftOut};
 use std::alloc::Global;
 
 /// How many records were clean, how many changed, and how many left out by each cause.
-#[derive(Clone, Copy, Debug, PartialEq, Eq)]
+#[derive(Clone, Copy)]
 pub struct RecordCounts {
     pub clean: usize,
     pub changed: usize,

@@ -10,7 +10,7 @@ use std::alloc::Global;
 
 /// How many records break a rule, and at how many it can't be tried (`untried`): a value is missing that the
 /// rule reads, or a number leaves the range.
-#[derive(Clone, Copy, Debug, PartialEq, Eq)]
+#[derive(Clone, Copy)]
 pub struct RuleCount {
     pub broken: usize,
     pub untried: usize,

@@ -21,7 +21,7 @@ use page_markup::{PageWriter, Tag};
 use std::alloc::Global;
 
 /// What a picture is called.
-#[derive(Clone, Copy, Debug)]
+#[derive(Clone, Copy)]
 pub struct Figure<'a> {
     /// A number that no other figure of the page has.
     pub id: u64,
@@ -34,7 +34,7 @@ pub struct Figure<'a> {
 }
 
 /// A bar of a picture, or a bin of a histogram.
-#[derive(Clone, Copy, Debug)]
+#[derive(Clone, Copy)]
 pub struct Bar<'a> {
     /// What it is called.
     pub label: &'a [u8],
@@ -43,7 +43,7 @@ pub struct Bar<'a> {
 }
 
 /// How the numbers of a bar stand in a picture.
-#[derive(Clone, Copy, Debug, PartialEq, Eq)]
+#[derive(Clone, Copy)]
 pub enum Form {
     /// One behind the other, in a bar that lies.
     Stacked,

@@ -12,7 +12,7 @@ use foundation::OutOfMemory;
 use page_markup::{Attribute, PageWriter, Tag, Value};
 
 /// What a cell of a table shows.
-#[derive(Clone, Copy, Debug)]
+#[derive(Clone, Copy)]
 pub enum Cell<'a> {
     /// A number, which stands at the right of its column.
     Number(u64),

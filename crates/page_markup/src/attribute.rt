@@ -4,7 +4,7 @@ ghost use Rattle.page_markup.specs.Names.{attribute_name};
 
 /// The name of an attribute. None of them makes a browser fetch or run anything; colours are the style
 /// sheet's, by `Class`.
-#[derive(Clone, Copy, Debug, PartialEq, Eq)]
+#[derive(Clone, Copy)]
 pub enum Attribute {
     /// `lang`
     Language,
@@ -83,7 +83,7 @@ impl Attribute {
 }
 
 /// The value of an attribute.
-#[derive(Clone, Copy, Debug)]
+#[derive(Clone, Copy)]
 pub enum Value<'a> {
     /// These bytes, whatever they are.
     Words(&'a [u8]),

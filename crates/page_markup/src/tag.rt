@@ -5,7 +5,7 @@ ghost use Rattle.page_markup.specs.Names.{tag_name, void_name};
 
 /// An element that may hold others and words. None of them fetches or runs anything. `Drawing`, `Group`,
 /// `Label` and `Description` are those of SVG; `Title` is the page's or a drawing's.
-#[derive(Clone, Copy, Debug, PartialEq, Eq)]
+#[derive(Clone, Copy)]
 pub enum Tag {
     /// `head`
     Head,
@@ -99,7 +99,7 @@ impl Tag {
 }
 
 /// An element that never holds anything. `Meta` stands in the head, the shapes in a drawing.
-#[derive(Clone, Copy, Debug, PartialEq, Eq)]
+#[derive(Clone, Copy)]
 pub enum VoidTag {
     /// `meta`
     Meta,

@@ -14,7 +14,7 @@ use std::marker::Model;
 
 /// The keys of a file's rows, each with the one row that has it, or with none where several have it. A key
 /// is found in constant time.
-#[derive(Debug, Drop)]
+#[derive(Drop)]
 pub struct KeyTable {
     rows: IndexMap<Vec<u8>, Option<u32>>,
 }

@@ -3,7 +3,7 @@ use back_subst::Gift;
 use bound_cert::{Cert, Path, RowProof};
 
 /// What becomes of a record whose fixed fields keep their values.
-#[derive(Debug, Drop)]
+#[derive(Drop)]
 pub enum Linked {
     /// The path changes the record into a correction that leaves the fixed fields alone. It has this weight,
     /// and the tree shows that none of these is lighter; the changed fields have these values.

@@ -28,7 +28,7 @@ use std::marker::Brand;
 use std::sync::ledger::{Blank, Ledger};
 
 /// What is made of the records of a panel.
-#[derive(Debug, Drop)]
+#[derive(Drop)]
 pub struct PanelRelease {
     /// The bytes of the released file: the records that keep or are given values.
     pub released: Vec<u8>,

@@ -3,7 +3,7 @@ use derivation::Step;
 use foundation::Sequence;
 
 /// What a walk along a path ends in. The work is that of all walks of which this is one.
-#[derive(Debug, Drop)]
+#[derive(Drop)]
 pub enum WalkEnd {
     /// The path and all that it extends are open.
     Open { work: u64 },

@@ -3,7 +3,7 @@
 use bound_cert::{Event, GiftFault, Path};
 
 /// The first line of a leaf: its path, why nothing below it is looked at, and how many steps follow.
-#[derive(Debug, Drop)]
+#[derive(Drop)]
 pub enum LeafHead {
     /// `bound`: the path itself weighs at least the weight that is to be shown.
     BoundAt(Path),
@@ -16,7 +16,7 @@ pub enum LeafHead {
 }
 
 /// The first line of a record, and how many leaves follow behind it.
-#[derive(Debug, Drop)]
+#[derive(Drop)]
 pub enum RowHead {
     /// `clean`: the record is right as it stands.
     CleanAt,
@@ -35,7 +35,7 @@ pub enum RowHead {
 }
 
 /// The limits of a run.
-#[derive(Debug, Drop)]
+#[derive(Drop)]
 pub struct RunLimits {
     /// How often a donor may be given.
     pub limit: u32,

@@ -6,7 +6,7 @@ use foundation::Sequence;
 
 /// What a run shows of itself: its limits, which lines it dropped and why, what it found of each record, and
 /// the claims of donors.
-#[derive(Debug, Drop)]
+#[derive(Drop)]
 pub struct Proof {
     /// The version of its text: 1, or 2, in which the lines that all records share are written once.
     pub version: u32,

@@ -9,7 +9,7 @@ use std::alloc::Global;
 
 /// A step that names a given line or combines two, as [`Step`] has them. It can be hashed and copied, which
 /// a step with a list can't.
-#[derive(Clone, Copy, Debug, PartialEq, Eq, Hash)]
+#[derive(Clone, Copy, PartialEq, Eq, Hash)]
 pub(crate) enum LineStep {
     Given(u64),
     Combine {

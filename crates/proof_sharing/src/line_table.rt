@@ -15,7 +15,7 @@ use std::marker::Model;
 
 /// Steps that each give a line, none twice, in the order in which they were put in. A step's place is found in
 /// constant time.
-#[derive(Debug, Drop)]
+#[derive(Drop)]
 pub(crate) struct LineTable {
     steps: IndexSet<LineStep>,
 }

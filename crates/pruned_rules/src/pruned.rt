@@ -21,7 +21,7 @@ use std::alloc::Global;
 const PRUNING_BUDGET: u64 = 2000;
 
 /// The lines of a survey's rules in order, and for each of them whether it is kept, and why, or is dropped.
-#[derive(Debug, Drop)]
+#[derive(Drop)]
 pub struct PrunedRules {
     /// All lines, in normal form.
     pub lines: Vec<Line>,

@@ -49,7 +49,7 @@ pub struct LeftOut {
 }
 
 /// What a line says.
-#[derive(Clone, Copy, Debug, PartialEq, Eq)]
+#[derive(Clone, Copy)]
 pub(crate) enum Entry {
     /// A field was changed.
     Changed(Change),

@@ -20,7 +20,7 @@ use record_text::{Texts, read_table};
 use std::alloc::Global;
 
 /// What a reasons file says, in the order of its lines.
-#[derive(Debug, Drop)]
+#[derive(Drop)]
 pub struct Reasons {
     /// The changes.
     pub changes: Sequence<Change>,

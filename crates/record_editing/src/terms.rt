@@ -1,7 +1,7 @@
 //! What is asked of an edit beside its records: how much work is done, who are donors, and how often.
 
 /// On what terms records are edited.
-#[derive(Clone, Copy, Debug, PartialEq, Eq)]
+#[derive(Clone, Copy)]
 pub struct Terms {
     /// The most work of the search in one record: the paths and pairs that may be looked at.
     pub budget: u64,

@@ -20,7 +20,7 @@ use std::sync::Arc;
 /// The donors of a sheet by imputation classes. Each code of the class field has a deck, in their order.
 /// Where there is no such field, one deck has all clean records. Behind them is the last class,
 /// which has no donors: of the records that have no code at the class field, or change it.
-#[derive(Debug, Drop)]
+#[derive(Drop)]
 pub struct Decks {
     pub class_field: Option<u32>,
     pub of_class: Vec<Deck>,

@@ -4,7 +4,7 @@ use foundation::Sequence;
 
 /// What was found of a record: its number, from 0, the outcome of its search, and its imputation class.
 /// Where some field of it is changed it also has the donors of this class that it ranks, the nearest first.
-#[derive(Debug, Drop)]
+#[derive(Drop)]
 pub struct Piece {
     pub row_no: u32,
     pub outcome: Outcome,

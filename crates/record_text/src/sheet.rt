@@ -11,7 +11,7 @@ use foundation::Sequence;
 use std::marker::Model;
 
 /// A record file as read: its header, the column of each field, and for each row its texts and its values.
-#[derive(Debug, Drop)]
+#[derive(Drop)]
 pub struct Sheet {
     header: Texts,
     columns: Vec<u32>,
@@ -32,7 +32,7 @@ impl Model for Sheet {
 
 /// The parts of a sheet: the header, the column of each field, and the texts and the values of its rows.
 /// All are in the order of the file, but that the columns are in that of the fields.
-#[derive(Debug, Drop)]
+#[derive(Drop)]
 pub struct SheetRows {
     pub header: Texts,
     pub columns: Sequence<u32>,

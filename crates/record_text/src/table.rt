@@ -16,7 +16,7 @@ use std::alloc::Global;
 use std::marker::Model;
 
 /// A table as read: its header, and the texts of its rows. Each row has as many texts as the header.
-#[derive(Debug, Drop)]
+#[derive(Drop)]
 pub struct Table {
     header: Texts,
     rows: Vec<Texts>,

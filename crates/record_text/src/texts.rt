@@ -15,7 +15,7 @@ use std::marker::Model;
 /// csv's record would hold them as well. But what other crates can cite of this one reaches the types of
 /// private fields, and csv's record reaches all statements of `serde`: each crate whose types reach a
 /// `Texts` would write them down.
-#[derive(Debug, Drop)]
+#[derive(Drop)]
 pub struct Texts {
     bytes: Vec<u8>,
     ends: Vec<usize>,

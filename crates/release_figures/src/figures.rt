@@ -4,7 +4,7 @@ use fraction128::Fraction;
 use page_counts::{Amount, Bins, CodeCounts, FieldCount, RecordCounts, RuleCount, SizeCount};
 
 /// All that the page of a release says, counted.
-#[derive(Debug, Drop)]
+#[derive(Drop)]
 pub struct ReleaseFigures {
     /// How many records were clean, changed, and left out by each cause.
     pub records: RecordCounts,
@@ -31,7 +31,7 @@ pub struct ReleaseFigures {
 }
 
 /// The values of a field before and after.
-#[derive(Debug, Drop)]
+#[derive(Drop)]
 pub enum FieldValues {
     /// Those of a numerical field.
     Numbers {
@@ -45,7 +45,7 @@ pub enum FieldValues {
 }
 
 /// A numerical field's values before and after, over the same bins; no bins where there is no number.
-#[derive(Debug, Drop)]
+#[derive(Drop)]
 pub struct NumberValues {
     pub bins: Option<Bins>,
     pub before: NumberFigures,
@@ -53,7 +53,7 @@ pub struct NumberValues {
 }
 
 /// What is counted of a numerical field's values.
-#[derive(Debug, Drop)]
+#[derive(Drop)]
 pub struct NumberFigures {
     /// How many values each bin has.
     pub counts: Sequence<usize>,

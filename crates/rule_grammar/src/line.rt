@@ -12,7 +12,7 @@ use foundation::OutOfMemory;
 use std::alloc::Global;
 
 /// What the text of a line is.
-#[derive(Debug, Drop)]
+#[derive(Drop)]
 pub enum LineText {
     /// Blanks alone, or no byte.
     Empty,

@@ -4,7 +4,7 @@ use edit_model::{Compare, Name};
 use foundation::Sequence;
 
 /// One term of a sum: `2 A` or `2 * A`, `A`, or `2`. Its sign stands outside of it.
-#[derive(Debug, Drop)]
+#[derive(Drop)]
 pub enum TermText {
     /// A factor and a field, with a `*` between them or not.
     Product {
@@ -17,14 +17,14 @@ pub enum TermText {
 }
 
 /// A sign and a term.
-#[derive(Debug, Drop)]
+#[derive(Drop)]
 pub struct SignedTerm {
     pub sign: Sign,
     pub term: TermText,
 }
 
 /// A sum: a term, with a sign in front or not, and further terms with their signs.
-#[derive(Debug, Drop)]
+#[derive(Drop)]
 pub struct SumText {
     pub sign: Option<Sign>,
     pub first: TermText,
@@ -32,14 +32,14 @@ pub struct SumText {
 }
 
 /// The codes between two braces, at least one.
-#[derive(Debug, Drop)]
+#[derive(Drop)]
 pub struct CodeList {
     pub first: Name,
     pub rest: Sequence<Name>,
 }
 
 /// A test: `A in {x, y}`, `A not in {x}`, or two sums with a comparison between them.
-#[derive(Debug, Drop)]
+#[derive(Drop)]
 pub enum TestText {
     Codes {
         field: Name,
@@ -54,14 +54,14 @@ pub enum TestText {
 }
 
 /// A rule: its conditions between `if` and `then`, or none, and its conclusion.
-#[derive(Debug, Drop)]
+#[derive(Drop)]
 pub struct RuleText {
     pub conditions: Sequence<TestText>,
     pub conclusion: TestText,
 }
 
 /// The declaration of a field. A weight or a scale that is not written is None.
-#[derive(Debug, Drop)]
+#[derive(Drop)]
 pub enum Declaration {
     Number {
         name: Name,
@@ -76,7 +76,7 @@ pub enum Declaration {
 }
 
 /// What one line says.
-#[derive(Debug, Drop)]
+#[derive(Drop)]
 pub enum Statement {
     Declaration(Declaration),
     Rule(RuleText),

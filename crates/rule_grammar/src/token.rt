@@ -2,7 +2,7 @@
 use edit_model::{Compare, Name};
 
 /// A word of the language, which names no field.
-#[derive(Clone, Copy, Debug, PartialEq, Eq)]
+#[derive(Clone, Copy)]
 pub enum Keyword {
     Number,
     Code,
@@ -16,7 +16,7 @@ pub enum Keyword {
 }
 
 /// A numeral: digits, or digits, a point and digits.
-#[derive(Clone, Copy, Debug, PartialEq, Eq)]
+#[derive(Clone, Copy)]
 pub enum Numeral {
     /// The whole number, at most 10^15, that the digits spell.
     Whole(u64),
@@ -25,14 +25,14 @@ pub enum Numeral {
 }
 
 /// The sign in front of a term.
-#[derive(Clone, Copy, Debug, PartialEq, Eq)]
+#[derive(Clone, Copy)]
 pub enum Sign {
     Plus,
     Minus,
 }
 
 /// The smallest pieces of a line.
-#[derive(Debug, Drop)]
+#[derive(Drop)]
 pub enum Token {
     Keyword(Keyword),
     /// The name of a field: a letter and then letters, digits and `_`, and no keyword.

@@ -22,7 +22,7 @@ pub const USAGE: &[u8] = b"fault: usage";
 pub const OUT_OF_MEMORY: &[u8] = b"fault: out of memory";
 
 /// The name of a file or of a field, as the command line gives it. Contracts see its bytes.
-#[derive(Debug, Drop)]
+#[derive(Drop)]
 pub struct AskedName<'a> {
     text: &'a str,
 }
@@ -52,7 +52,7 @@ impl<'a> AskedName<'a> {
 }
 
 /// Why a file of records has no reading.
-#[derive(Debug, Drop)]
+#[derive(Drop)]
 pub enum RecordsFault {
     /// There is no record at all.
     NoHeader,
@@ -71,7 +71,7 @@ pub enum RecordsFault {
 }
 
 /// Why a run ended before all was done.
-#[derive(Debug, Drop)]
+#[derive(Drop)]
 pub enum Fault<'a> {
     /// The words are no command.
     Usage,

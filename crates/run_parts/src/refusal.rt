@@ -13,7 +13,7 @@ use std::marker::Model;
 /// A fault that ends a run, with the line that is printed of it. The line is made before the call that
 /// may meet the fault. So a file that could not be read or written is told without memory. The refusal
 /// for want of memory alone may have no line of its own: it has a constant one.
-#[derive(Debug, Drop)]
+#[derive(Drop)]
 pub struct Refusal<'a> {
     fault: Fault<'a>,
     line: Option<Vec<u8>>,

@@ -28,7 +28,7 @@ use std::sync::ledger::{Blank, Ledger};
 /// What a call asks for: the nearest donors, at most `near`, for the record of the number `row_no`, from
 /// 0. The path says by letters, in path order, which fields of it are kept. The donors are among all clean
 /// records, or, where `class_field` names a field, among those that have the record's code there.
-#[derive(Clone, Copy, Debug)]
+#[derive(Clone, Copy)]
 pub struct Asked<'a> {
     pub path: &'a str,
     pub row_no: u64,
@@ -37,7 +37,7 @@ pub struct Asked<'a> {
 }
 
 /// How many donors are ranked at most, and the number of the class field, from 0, if there is one.
-#[derive(Clone, Copy, Debug)]
+#[derive(Clone, Copy)]
 struct Among {
     near: u32,
     class_field: Option<u32>,

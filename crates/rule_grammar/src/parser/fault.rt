@@ -2,7 +2,7 @@
 use std::alloc::AllocFailed;
 
 /// Why a production was not read off the tokens.
-#[derive(Clone, Copy, Debug, PartialEq, Eq)]
+#[derive(Clone, Copy)]
 pub(crate) enum Fault {
     /// The tokens do not begin with the production.
     Unreadable,
