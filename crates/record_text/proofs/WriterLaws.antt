@@ -1,16 +1,14 @@
--- What csv's writer has written, after one record more.
-use Rattle.std.proofs.Common.{◌≡◌, ◌≢◌, ◌==◌, ℕ, Bool, true, false, if◌then◌else◌, List, [], ◌∷◌, ◌++◌, drop, length, take, ◌-◌, Some, Vec, refl, sym, ap, ◌∙◌}
+-- What csv's writer has written, after one record.
+use Rattle.std.proofs.Common.{◌≡◌, ◌≢◌, ◌==◌, ℕ, Bool, true, false, if◌then◌else◌, List, [], ◌∷◌, ◌++◌, length, Some, Vec, refl, sym, ap, ◌∙◌}
 use Rattle.std.proofs.Common.{append-nil}
 use Rattle.std.specs.declared.alloc.Global.{Global}
 use Rattle.std.specs.Io.KnownBytes.{Appends, Keeps}
-use Rattle.std.proofs.lemmas.List.{drop_at, length-drop}
-use Rattle.std.proofs.Math.Seq.{take-length}
 use Rattle.csv.specs.Writing.{default_writer, escaped, field_text, fields_text, fields_written, has_written, is_blank, needs_quotes, row_body, row_text}
 use Rattle.csv.specs.Writing.{text_written, with_flexible, writer_pending, writer_setup, writer_under}
 use Rattle.csv.specs.declared.writer.QuoteStyle.TheVariants as style
 use Rattle.csv.specs.declared.writer.Writer.{Writer}
 use Rattle.record_text.specs.Texts.{records_text}
-use Rattle.record_text.specs.inner.Writers.{IsBetweenRecords}
+use Rattle.record_text.specs.inner.Writers.{IsUnused}
 
 -- ---- the text of a record, whether records may differ in length or not
 
@@ -44,27 +42,20 @@ row-same texts =
     ap (λ (body : List ℕ). body ++ ((if is_blank (with_flexible default_writer true) texts then 34 ∷ 34 ∷ [] else []) ++ 10 ∷ [])) (body-same texts)
     ∙ ap (λ (b : Bool). row_body default_writer texts ++ ((if b then 34 ∷ 34 ∷ [] else []) ++ 10 ∷ [])) (blank-same texts)
 
--- ---- one record more
+-- ---- one record
 
--- one record more is written and handed on: it stands behind what was gathered before
-pub gathered-more : (old written now : Writer (Vec ℕ Global)) (texts : List (List ℕ)) → IsBetweenRecords old
-    → (fields_written old ≡ 0 → has_written old ≡ false → (writer_setup old).style ≢ style.NonNumeric
-    → Appends (text_written (λ v. Some v.items) old) (text_written (λ v. Some v.items) written) (row_text (writer_setup old) texts))
+-- one record is written and handed on: nothing else was
+pub written-alone : (unused written now : Writer (Vec ℕ Global)) (texts : List (List ℕ)) → IsUnused unused
+    → (fields_written unused ≡ 0 → has_written unused ≡ false → (writer_setup unused).style ≢ style.NonNumeric
+    → Appends (text_written (λ v. Some v.items) unused) (text_written (λ v. Some v.items) written) (row_text (writer_setup unused) texts))
     → Keeps (text_written (λ v. Some v.items) written) (text_written (λ v. Some v.items) now) → writer_pending now ≡ []
-    → (writer_under now).items ≡ (writer_under old).items ++ records_text (texts ∷ [])
-gathered-more old written now texts between appends keeps pending =
+    → (writer_under now).items ≡ records_text (texts ∷ [])
+written-alone unused written now texts is appends keeps pending =
     sym (append-nil (writer_under now).items) ∙ ap (λ (bs : List ℕ). (writer_under now).items ++ bs) (sym pending) ∙ keeps
-    ∙ appends between.none_begun between.none_shown plain
-    ∙ ap (λ (bs : List ℕ). ((writer_under old).items ++ bs) ++ row_text (writer_setup old) texts) between.none_pending
-    ∙ ap (λ (bs : List ℕ). bs ++ row_text (writer_setup old) texts) (append-nil (writer_under old).items)
-    ∙ ap (λ (bs : List ℕ). (writer_under old).items ++ bs)
-    (ap (λ s. row_text s texts) between.setup ∙ row-same texts ∙ sym (append-nil (row_text default_writer texts)))
+    ∙ appends is.none_begun is.none_shown plain
+    ∙ ap (λ (bs : List ℕ). ((writer_under unused).items ++ bs) ++ row_text (writer_setup unused) texts) is.none_pending
+    ∙ ap (λ (bs : List ℕ). (bs ++ []) ++ row_text (writer_setup unused) texts) is.none_under
+    ∙ ap (λ s. row_text s texts) is.setup ∙ row-same texts ∙ sym (append-nil (row_text default_writer texts))
   where
-    plain : (writer_setup old).style ≢ style.NonNumeric
-    plain = rw between.setup (λ e. cc e)
-
--- what stands in a slice from the end of what was gathered before is what was gathered since
-pub gathered-behind : (all old more : List ℕ) (begin : ℕ) → all ≡ old ++ more → begin ≡ length old → take (length all - begin) (drop begin all) ≡ more
-gathered-behind all old more begin is at =
-    ap (λ (n : ℕ). take n (drop begin all)) (sym (length-drop begin all)) ∙ take-length (drop begin all) ∙ ap (λ (bs : List ℕ). drop begin bs) is
-    ∙ drop_at old more begin (sym at)
+    plain : (writer_setup unused).style ≢ style.NonNumeric
+    plain = rw is.setup (λ e. cc e)

@@ -1,10 +1,9 @@
 //! Records that are written one after another, as the released file and the reasons file are.
 //!
 //! In contracts, `records_text` is what records are written as, each with its line feed.
-//! `IsBetweenRecords` says that csv's writer has begun no record.
 ghost use Rattle.std.specs.Prelude.{◌≡◌, ◌++◌, ◌∷◌, [], OnErr, OnOk, map};
 ghost use Rattle.record_text.specs.Texts.{records_text};
-ghost use Rattle.record_text.specs.inner.Writers.{IsBetweenRecords};
+ghost use Rattle.record_text.specs.inner.Writers.{IsUnused};
 
 use crate::texts::Texts;
 use csv::{Writer, WriterBuilder};
@@ -12,30 +11,23 @@ use foundation::OutOfMemory;
 use std::alloc::Global;
 use std::marker::Model;
 
-/// How many bytes csv's writer gathers before another takes its place.
-const MOST_GATHERED: usize = 1 << 16;
-
 /// Records that are written one after another, as csv's default writer writes them, each ended by a line
 /// feed. Where memory is refused, what was written stays as before. Writing into memory gives no output
 /// error, and records may differ in length, so csv refuses for want of memory alone. Part of a record
-/// can't be taken back from csv's writer: only whole ones go behind `text`, and a refused writer is
-/// dropped.
+/// can't be taken back from csv's writer: so each record has one to itself, and goes behind `text` when it
+/// is whole.
 #[derive(Drop)]
 pub struct RecordWriter {
     text: Vec<u8>,
-    writer: Writer<Vec<u8>>,
     alloc: Global,
 }
 
 impl Model for RecordWriter {
     ghost use Rattle.std.specs.Prelude.{ℕ, List};
-    ghost use Rattle.record_text.specs.inner.Writers.{IsBetweenRecords};
 
     ghost Value = { List ℕ };
 
     ghost view = { λ w. w.text.items };
-
-    ghost invariant = { λ w. IsBetweenRecords w.writer };
 }
 
 impl RecordWriter {
@@ -45,7 +37,6 @@ impl RecordWriter {
     {
         RecordWriter {
             text: Vec::new(alloc),
-            writer: csv_writer(alloc),
             alloc,
         }
     }
@@ -66,14 +57,11 @@ impl RecordWriter {
         ensures written { OnOk result (self.new ≡ self.old ++ records_text (map (λ text. text.now) texts.now ∷ [])) }
         ensures refused { OnErr result (self.new ≡ self.old) }
     {
-        self.renew_writer();
-        let begin = self.writer.get_ref().len();
-        if self.writer.write_fields(texts).is_err() || self.writer.flush().is_err() {
-            self.writer = csv_writer(self.alloc);
+        let mut writer = csv_writer(self.alloc);
+        if writer.write_fields(texts).is_err() || writer.flush().is_err() {
             return Err(OutOfMemory);
         }
-        self.text
-            .extend_from_slice(&self.writer.get_ref()[begin..])?;
+        self.text.extend_from_slice(writer.get_ref())?;
         Ok(())
     }
 
@@ -84,21 +72,11 @@ impl RecordWriter {
         let RecordWriter { text, .. } = self;
         text
     }
-
-    // Takes a new writer of csv's where the old one has gathered many bytes, which all stand in `text` by
-    // now. Else a writer's own memory would grow with the file.
-    fn renew_writer(&mut self)
-        ensures { self.new ≡ self.old }
-    {
-        if self.writer.get_ref().len() > MOST_GATHERED {
-            self.writer = csv_writer(self.alloc);
-        }
-    }
 }
 
 // A writer that has written nothing, of records that may differ in length.
 fn csv_writer(alloc: Global) -> Writer<Vec<u8>>
-    ensures { IsBetweenRecords result }
+    ensures { IsUnused result }
 {
     WriterBuilder::new()
         .flexible(true)

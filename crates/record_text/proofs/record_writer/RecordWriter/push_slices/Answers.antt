@@ -1,7 +1,7 @@
-use Rattle.std.proofs.Common.{rules, ◌≡◌, ◌++◌, ◌∙◌, ◌∷◌, [], Bor, List, ℕ, ap, length, map, sym}
+use Rattle.std.proofs.Common.{◌≡◌, ◌++◌, ◌∙◌, ◌∷◌, [], Bor, List, ℕ, ap, map, sym}
 use Rattle.csv.proofs.ReadFacts.{on-ok}
 use Rattle.record_text.specs.Texts.{records_text}
-use Rattle.record_text.proofs.WriterLaws.{gathered-behind, gathered-more}
+use Rattle.record_text.proofs.WriterLaws.{written-alone}
 use Rattle.record_text.proofs.record_writer.RecordWriter.push_slices.Goals as goal
 
 pub returns-clause-written : goal.returns-clause-written
@@ -10,12 +10,8 @@ returns-clause-written c =
     let handed = sym c.is_err-else-is_err.ensures.value ∙ c.if-is_err-2.false in
     let texts = map (λ (text : Bor (List ℕ)). text.now) c.args.texts.now in
     let appends = on-ok c.write_fields.result good c.write_fields.ensures.bytes in
-    let more = gathered-more c.self.inside.writer c.write_fields.new.self c.flush.new.self texts c.self.invariant appends c.flush.ensures.bytes
+    let alone = written-alone c.csv_writer-writer.result c.write_fields.new.self c.flush.new.self texts c.csv_writer-writer.ensures appends c.flush.ensures.bytes
     (on-ok c.flush.result handed c.flush.ensures.pending) in
-    let all = c.deref.ensures.value ∙ ap (λ v. v.items) c.get_ref-2.ensures ∙ more in
-    let begin : c.len-begin.result ≡ length c.self.inside.writer.wtr.inner.items = search rules in
-    let before = c.self.view_is ∙ c.renew_writer.ensures in
     c.in_ok-extend_from_slice.ensures.items
-    ∙ ap (λ (bs : List ℕ). c.self.inside.text.items ++ bs)
-    (gathered-behind c.deref.result.now c.self.inside.writer.wtr.inner.items (records_text (texts ∷ [])) c.len-begin.result all begin)
-    ∙ ap (λ (bs : List ℕ). bs ++ records_text (texts ∷ [])) before
+    ∙ ap (λ (bs : List ℕ). c.self.inside.text.items ++ bs) (c.deref.ensures.value ∙ ap (λ v. v.items) c.get_ref.ensures ∙ alone)
+    ∙ ap (λ (bs : List ℕ). bs ++ records_text (texts ∷ [])) c.self.view_is
