@@ -123,9 +123,12 @@ fn a_line_that_two_boxes_come_from_is_given_once(rt: HostRuntime) -> Result<(), 
     let survey = survey_of_one(alloc)?;
     let steps = write_steps(alloc, &test_levels(alloc, &survey)?, 0)?;
     let is_as_expected = match steps.as_slice() {
-        [Step::Given(7), Step::Fail(0), Step::Fail(0), Step::Cover { field: 1, parts }] => {
-            parts.as_slice() == [1, 2, 1].as_slice()
-        }
+        [
+            Step::Given(7),
+            Step::Fail(0),
+            Step::Fail(0),
+            Step::Cover { field: 1, parts },
+        ] => { parts.as_slice() == [1, 2, 1].as_slice() }
         _ => false,
     };
     assert!(rt; is_as_expected);
