@@ -9,7 +9,7 @@ use Rattle.std.specs.Option.{option_flatten}
 use Rattle.std.specs.Str.{bytes_eq}
 use Rattle.edit_model.proofs.NameLemmas.{false_unless}
 use Rattle.panel_files.specs.Joined.{key_of, only, row_with_key, rows_from}
-use Rattle.panel_files.specs.KeyRows.{row_in}
+use Rattle.panel_files.specs.inner.KeyRows.{row_in}
 use Rattle.panel_files.specs.inner.KeyEntries.{IsNoted, entry_after, entry_of, row_after}
 
 -- ---- entries

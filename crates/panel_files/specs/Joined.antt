@@ -36,6 +36,14 @@ only _ = None
 abbrev pub row_with_key : ℕ → List ℕ → List (List (List ℕ)) → Option ℕ
 row_with_key column key row_texts = only (rows_from 0 column key row_texts)
 
+-- the row of the last period for a record with these texts: the one that has its key; none where no row has it, or several have
+abbrev pub last_row : PanelFiles → List (List ℕ) → Option ℕ
+last_row files texts = row_with_key files.last_key (key_of files.own_key texts) files.last.row_texts
+
+-- the rows of the last period for all records, in order
+abbrev pub last_rows : PanelFiles → List (Option ℕ)
+last_rows files = map (last_row files) files.own.row_texts
+
 -- ---- what is joined
 
 -- both lists as one: the next of the last ones where the flag is set, and the next of the own ones where it is not
@@ -52,8 +60,7 @@ last_values fields rows (Some j) = slice_index_or rows j []
 -- the values of a record at all fields, where those of the set are the last fields: its own and those of the last period
 abbrev pub both_values : List Field → ℕ → PanelFiles → List (List ℕ) → List Value → List Value
 both_values fields set files texts own =
-    joined (flags_of set fields) own
-    (last_values (last_fields fields set) files.last.rows (row_with_key files.last_key (key_of files.own_key texts) files.last.row_texts))
+    joined (flags_of set fields) own (last_values (last_fields fields set) files.last.rows (last_row files texts))
 
 -- the same of records with these texts, in order
 abbrev pub both_rows_of : List Field → ℕ → PanelFiles → List (List (List ℕ)) → List (List Value) → List (List Value)

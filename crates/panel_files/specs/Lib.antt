@@ -1,4 +1,3 @@
 pub mod Joined
-pub mod KeyRows
 pub mod LastFields
 pub mod inner

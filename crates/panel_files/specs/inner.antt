@@ -1,3 +1,4 @@
 pub mod Joining
 pub mod KeyEntries
+pub mod KeyRows
 pub mod LastBelow

@@ -1,6 +1,6 @@
 //! The two files of a panel: the records of this period, and the rows of the last one. These are joined to
 //! the records by a key. Begin with `specs/LastFields.antt`, which says which fields stand in which file, and
-//! `specs/Joined.antt`; in the code with [`last_set`] and [`KeyTable`].
+//! `specs/Joined.antt`; in the code with [`last_set`] and [`last_rows`].
 #![tactic(auto)]
 
 mod copies;
@@ -12,6 +12,6 @@ mod surveys;
 mod tests;
 
 pub use fields::last_set;
-pub use keys::KeyTable;
+pub use keys::last_rows;
 pub use rows::{both_columns, both_values};
 pub use surveys::{last_survey, own_survey};

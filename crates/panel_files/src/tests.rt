@@ -3,7 +3,8 @@
 ghost use Rattle.std.specs.Prelude.{IfOk, IfSome};
 ghost use Rattle.edit_model.specs.Rows.{IsRow};
 
-use crate::{KeyTable, both_columns, both_values, last_set, last_survey, own_survey};
+use crate::keys::KeyTable;
+use crate::{both_columns, both_values, last_rows, last_set, last_survey, own_survey};
 use edit_model::{Field, Kind, Name, Row, Survey};
 use record_text::read_records;
 use std::alloc::Global;
@@ -73,6 +74,34 @@ fn a_key_has_a_row_where_one_row_has_it(rt: HostRuntime) -> Result<(), Fail> {
     for (key, row) in KEYS {
         assert_eq!(rt; table.row_of(key), *row);
     }
+    Ok(())
+}
+
+/// Records whose keys stand in their second column.
+const OWN_FILE: &[u8] = b"firm,id\na,9\nb, 10\nc,7\nd,11\n";
+
+// The rows of the file `last` for the records of the file `own`. Both have their keys in a column `id`. The
+// survey is that of their fields.
+fn rows_found(
+    alloc: Global,
+    survey: &Survey,
+    own: &[u8],
+    last: &[u8],
+) -> Result<Vec<Option<u32>>, Fail> {
+    let own = read_records(alloc, survey, own)?;
+    let last = read_records(alloc, survey, last)?;
+    match (own.column_named(b"id"), last.column_named(b"id")) {
+        (Some(own_key), Some(last_key)) => Ok(last_rows(alloc, &own, own_key, &last, last_key)?),
+        _ => Err("no column".into()),
+    }
+}
+
+// Of the keys of the records, 9 stands three times in the file of keys, 10 and 7 stand once, and 11 never.
+#[test]
+fn each_record_finds_the_one_row_with_its_key(rt: HostRuntime) -> Result<(), Fail> {
+    let survey = survey_of(rt.alloc(), &[])?;
+    let rows = rows_found(rt.alloc(), &survey, OWN_FILE, KEY_FILE)?;
+    assert_eq!(rt; rows.as_slice(), [None, Some(4), Some(0), None].as_slice());
     Ok(())
 }
 

@@ -11,7 +11,7 @@ ghost use Rattle.edit_report.specs.Ends.{IsEnd};
 ghost use Rattle.edit_report.specs.Layouts.{IsLayout};
 ghost use Rattle.panel_files.specs.LastFields.{AreLastFields, last_fields, own_fields};
 ghost use Rattle.panel_release.specs.PanelReleases.{IsAnswerAmong, IsPanelRelease, columns_in, end_of};
-ghost use Rattle.panel_release.specs.inner.Panels.{IsRead, TellsRows, both_at};
+ghost use Rattle.panel_release.specs.inner.Panels.{IsRead, both_at, last_row_at};
 ghost use Rattle.panel_release.specs.inner.Tellings.{TellsNone, TellsTo};
 
 use crate::panel::Panel;
@@ -20,9 +20,8 @@ use edit_model::Row;
 use edit_normal::{RuleLine, normal_lines};
 use edit_report::Layout;
 use foundation::{OutOfMemory, Steps};
-use panel_files::{KeyTable, both_columns, both_values};
+use panel_files::{both_columns, both_values, last_rows};
 use panel_link::{Linked, link};
-use record_text::trimmed;
 use std::alloc::Global;
 use std::marker::Brand;
 use std::sync::ledger::{Blank, Ledger};
@@ -73,10 +72,10 @@ fn tell_rows(
     requires none { TellsNone panel.now.files.own (length lines.now) budget told.old }
     ensures told { OnOk result (TellsTo panel.now budget (length panel.now.files.own.rows) told.new) }
 {
-    let table = KeyTable::of(alloc, panel.last, panel.last_key)?;
+    let rows = last_rows(alloc, panel.own, panel.own_key, panel.last, panel.last_key)?;
     let layout = layout_of(alloc, panel)?;
     for row_no in 0..panel.own.len() {
-        let answer = answer_at(alloc, panel, &table, lines, row_no, budget)?;
+        let answer = answer_at(alloc, panel, rows[row_no as usize], lines, row_no, budget)?;
         let record = AnsweredRecord {
             number: row_no,
             read: panel.own.raw(row_no),
@@ -107,18 +106,21 @@ fn layout_of(alloc: Global, panel: &Panel) -> Result<Layout, OutOfMemory>
 }
 
 // The values of the record of this number at all fields: its own, and those of its row of the last period.
-// That is the one row that has its key, which `table` finds (`TellsRows`). Where no row has the key, or
-// several have, the last fields have no value.
-fn both_row(alloc: Global, panel: &Panel, table: &KeyTable, row_no: u32) -> Result<Row, OutOfMemory>
+// That row has the number `last_no`, from 0. Where there is none, the last fields have no value.
+fn both_row(
+    alloc: Global,
+    panel: &Panel,
+    last_no: Option<u32>,
+    row_no: u32,
+) -> Result<Row, OutOfMemory>
     requires read { IsRead panel.now }
-    requires table { TellsRows panel.now table.now }
+    requires last { last_no ≡ last_row_at panel.now row_no }
     requires there { row_no < length panel.now.files.own.rows }
     ensures row { IfOk result (λ row. row ≡ both_at panel.now row_no) }
     ensures is_row { IfOk result (IsRow panel.now.survey.fields) }
 {
     let own = panel.own.row(row_no);
-    let key = trimmed(panel.own.raw(row_no).get(panel.own_key as usize));
-    match table.row_of(key) {
+    match last_no {
         None => both_values(alloc, panel.survey, panel.set, own, None),
         Some(number) => {
             let last = panel.last.row(number);
@@ -127,24 +129,24 @@ fn both_row(alloc: Global, panel: &Panel, table: &KeyTable, row_no: u32) -> Resu
     }
 }
 
-// What becomes of the record of this number, by its values and those of its row of the last period, which
-// `table` finds. `lines` are those of all rules.
+// What becomes of the record of this number, by its values and those of its row of the last period, whose
+// number is `last_no`. `lines` are those of all rules.
 fn answer_at(
     alloc: Global,
     panel: &Panel,
-    table: &KeyTable,
+    last_no: Option<u32>,
     lines: &[RuleLine],
     row_no: u32,
     budget: u64,
 ) -> Result<Linked, OutOfMemory>
     requires read { IsRead panel.now }
-    requires table { TellsRows panel.now table.now }
+    requires last { last_no ≡ last_row_at panel.now row_no }
     requires lines { map (λ l. l.line) lines.now ≡ normal_lines_of panel.now.survey }
     requires there { row_no < length panel.now.files.own.rows }
     ensures answer { IfOk result (IsAnswerAmong panel.now.survey panel.now.set budget (both_at panel.now row_no)) }
     ensures end { IfOk result (λ answer. IsEnd panel.now.survey.fields (end_of answer)) }
 {
-    let row = both_row(alloc, panel, table, row_no)?;
+    let row = both_row(alloc, panel, last_no, row_no)?;
     answer_for::<Brand>(alloc, panel, lines, &row, budget, Blank::new(1))
 }
 

@@ -1,9 +1,8 @@
 -- A panel whose files were read.
-use Rattle.std.specs.Prelude.{◌≡◌, ◌<◌, ℕ, List, Option, [], length, slice_index_or}
+use Rattle.std.specs.Prelude.{◌<◌, ℕ, List, Option, [], length, slice_index_or}
 use Rattle.edit_model.specs.declared.value.Value.{Value}
 use Rattle.record_text.specs.Sheets.{IsSheet}
-use Rattle.panel_files.specs.Joined.{both_rows, both_values, row_with_key}
-use Rattle.panel_files.specs.KeyRows.{row_in}
+use Rattle.panel_files.specs.Joined.{both_rows, both_values, last_row}
 use Rattle.panel_files.specs.LastFields.{AreLastFields, last_fields, own_fields}
 use Rattle.panel_release.specs.PanelReleases.{PanelCase}
 
@@ -15,9 +14,9 @@ pub record IsRead (panel : PanelCase) : Type 0 where
   pub own_key : panel.files.own_key < length panel.files.own.header
   pub last_key : panel.files.last_key < length panel.files.last.header
 
--- the table tells of each key which row of the last period has it
-abbrev pub TellsRows : PanelCase → List (List ℕ × Option ℕ) → Type 0
-TellsRows panel table = (key : List ℕ) → row_in table key ≡ row_with_key panel.files.last_key key panel.files.last.row_texts
+-- the row of the last period for the record of this number
+abbrev pub last_row_at : PanelCase → ℕ → Option ℕ
+last_row_at panel n = last_row panel.files (slice_index_or panel.files.own.row_texts n [])
 
 -- the values of the record of this number at all fields
 abbrev pub both_at : PanelCase → ℕ → List Value

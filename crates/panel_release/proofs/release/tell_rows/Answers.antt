@@ -15,8 +15,15 @@ use Rattle.panel_release.proofs.PanelLaws.{texts-within}
 use Rattle.panel_release.proofs.TellingLaws.{told-more, told-none}
 use Rattle.panel_release.proofs.release.tell_rows.Goals as goal
 
-pub of-requires : goal.of-requires
-of-requires c =
+pub last_rows-requires-clause-own : goal.last_rows-requires-clause-own
+last_rows-requires-clause-own c =
+    let own = subst (λ (p : PanelCase). (bytes : List ℕ) × IsSheet (own_fields p.survey.fields p.set) bytes p.files.own) (sym c.panel.view_is)
+    c.requires.read.own in
+    let key = subst (λ (p : PanelCase). p.files.own_key < length p.files.own.header) (sym c.panel.view_is) c.requires.read.own_key in
+    texts-within _ own.0 _ own.1 c.panel.inside.own_key key
+
+pub last_rows-requires-clause-last : goal.last_rows-requires-clause-last
+last_rows-requires-clause-last c =
     let last = subst (λ (p : PanelCase). (bytes : List ℕ) × IsSheet (last_fields p.survey.fields p.set) bytes p.files.last) (sym c.panel.view_is)
     c.requires.read.last in
     let key = subst (λ (p : PanelCase). p.files.last_key < length p.files.last.header) (sym c.panel.view_is) c.requires.read.last_key in

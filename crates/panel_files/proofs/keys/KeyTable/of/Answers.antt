@@ -1,5 +1,4 @@
-use Rattle.std.proofs.Common.{List, [], ◌<◌, ◌≤◌, ℕ, ap, arith, length, slice_index_or, subst, ◌∙◌}
-use Rattle.record_text.specs.Trimming.{trimmed}
+use Rattle.std.proofs.Common.{List, ◌<◌, ◌≤◌, ℕ, arith, length, subst}
 use Rattle.panel_files.proofs.KeyLaws.{table-all, table-more}
 use Rattle.panel_files.specs.inner.KeyEntries.{IsNoted}
 use Rattle.panel_files.proofs.keys.KeyTable.of.Goals as goal
@@ -10,9 +9,7 @@ loop-row_no-preserved c =
     let row_texts = c.args.sheet.now.row_texts in
     let below : n < length row_texts = omega (arith, c.loop-row_no-test.true, c.len-row_no-end.ensures.row_texts) in
     table-more c.args.column row_texts n c.loop-row_no.table c.note_key.new.self below c.loop-row_no.invariant
-    (subst (λ (key : List ℕ). IsNoted c.loop-row_no.table c.note_key.new.self key n)
-    (c.trimmed-key.ensures ∙ ap trimmed (c.get.ensures ∙ ap (λ (texts : List (List ℕ)). slice_index_or texts c.args.column []) c.raw.ensures))
-    c.in_ok-note_key.ensures)
+    (subst (λ (key : List ℕ). IsNoted c.loop-row_no.table c.note_key.new.self key n) c.key_at-key.ensures c.in_ok-note_key.ensures)
 
 pub returns : goal.returns
 returns c =
