@@ -1,9 +1,10 @@
-use Rattle.std.proofs.Common.{◌∙◌, FitsSigned, get_or, pos, rules, sym}
+use Rattle.std.proofs.Common.{◌∙◌, FitsSigned, get_or, pos, rules, sym, arith}
 use Rattle.std.proofs.lemmas.Int.{to_z-of_z}
 use Rattle.std.proofs.lemmas.List.Elements.{All-set}
 use Rattle.fraction128.specs.Range.{InRange}
 use mir.Syntax.{w128}
 use Rattle.edit_line.proofs.ListPairs.{combined-more, overflow-there}
+use Rattle.std.proofs.lemmas.Grind.{common_steps}
 use Rattle.edit_line.proofs.line_sum.write_sums.Goals as goal
 
 pub returns-in-None-clause-place : goal.returns-in-None-clause-place
@@ -37,3 +38,9 @@ loop-i-preserved c =
       count =
           search rules;
     })
+
+pub returns-clause-place : goal.returns-clause-place
+returns-clause-place c = grind (arith, common_steps)
+
+pub returns-clause-sums : goal.returns-clause-sums
+returns-clause-sums c = grind (arith, common_steps)

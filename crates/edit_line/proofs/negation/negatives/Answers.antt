@@ -1,8 +1,9 @@
-use Rattle.std.proofs.Common.{◌≡◌, ◌<◌, ◌+◌, ◌++◌, ◌∷◌, ◌∙◌, [], FitsSigned, List, get_or, length, map, pos, rules, sym, take, ℕ, ℤ}
+use Rattle.std.proofs.Common.{◌≡◌, ◌<◌, ◌+◌, ◌++◌, ◌∷◌, ◌∙◌, [], FitsSigned, List, get_or, length, map, pos, rules, sym, take, ℕ, ℤ, arith}
 use Rattle.std.proofs.lemmas.Int.{to_z-of_z}
 use Rattle.std.proofs.lemmas.List.{map_more}
 use lib.IntN.{neg_ℤ}
 use mir.Syntax.{w128}
+use Rattle.std.proofs.lemmas.Grind.{common_steps}
 use Rattle.edit_line.proofs.negation.negatives.Goals as goal
 
 -- the negatives up to a place, and with the one there
@@ -20,3 +21,6 @@ loop-number-preserved c =
     let is = simp to_z-of_z at c.negative.ensures.value in
     let pushed = simp to_z-of_z at c.in_ok-push.ensures.items in
     negatives-more numbers c.loop-number.others.items c.push.new.self.items i c.negative.result c.loop-number-test.true c.loop-number.invariant is pushed
+
+pub returns : goal.returns
+returns c = grind (arith, common_steps)

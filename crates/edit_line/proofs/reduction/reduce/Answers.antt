@@ -1,8 +1,9 @@
-use Rattle.std.proofs.Common.{◌≡◌, ◌∙◌, sym, ap, map-id, rules}
+use Rattle.std.proofs.Common.{◌≡◌, ◌∙◌, sym, ap, map-id, rules, arith}
 use Rattle.std.proofs.lemmas.Iterator.Adapters.{YieldsList-from_vec}
 use Rattle.std.proofs.lemmas.Iterator.Consumers.{YieldsList-end}
 use Rattle.edit_line.specs.Reductions.{reduce_derived}
 use Rattle.edit_line.proofs.ReductionLaws.{reduced-covers, reduced-same}
+use Rattle.std.proofs.lemmas.Grind.{common_steps}
 use Rattle.edit_line.proofs.reduction.reduce.Goals as goal
 
 pub returns : goal.returns
@@ -16,3 +17,6 @@ returns c =
       dropped = reduced-covers c.args.lines.items c.into_lines.result.items is;
       same = reduced-same c.args.lines.items c.into_lines.result.items is;
     }
+
+pub loop-line-preserved : goal.loop-line-preserved
+loop-line-preserved c = grind (arith, common_steps)

@@ -1,10 +1,10 @@
-use Rattle.std.proofs.Common.{◌≡◌, ◌↔◌, ◌==◌, ◌<◌, ◌++◌, ◌∷◌, [], ◌∙◌, ap, bit_xor, if◌then◌else◌, length, slice_index_or, slice_set, subst, sym, List, ℕ}
-use Rattle.std.proofs.Common.{arith}
+use Rattle.std.proofs.Common.{◌≡◌, ◌↔◌, ◌==◌, ◌<◌, ◌++◌, ◌∷◌, [], ◌∙◌, ap, bit_xor, if◌then◌else◌, length, slice_index_or, slice_set, subst, sym, List, ℕ, arith}
 use Rattle.edit_line.specs.Lines.{AllHold, LineHolds, LineParts}
 use Rattle.edit_line.specs.Shapes.{Domain, whole_sets}
 use Rattle.edit_line.specs.Negations.{negation_of, never}
 use Rattle.edit_line.proofs.NegationLines.{negation-all, negation-end, outside-more}
 use Rattle.edit_line.proofs.NegationLaws.{negation-meets}
+use Rattle.std.proofs.lemmas.Grind.{common_steps}
 use Rattle.edit_line.proofs.line.Line.negation.Goals as goal
 
 pub loop-place-preserved : goal.loop-place-preserved
@@ -36,3 +36,6 @@ returns-clause-contrary c = λ p held.
     let is = negation-end line c.loop-place.negation.items c.loop-place.place (ap length (sym c.sets-sets.ensures.sets))
     (omega (arith, c.loop-place-test.false)) c.loop-place.invariant in
     subst (λ (ls : List LineParts). AllHold ls p ↔ (¬ LineHolds line p)) (sym is) (negation-meets line p c.sets-sets.ensures.line c.requires held)
+
+pub returns-clause-exact : goal.returns-clause-exact
+returns-clause-exact c = grind (arith, common_steps)

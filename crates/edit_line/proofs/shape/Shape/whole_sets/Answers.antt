@@ -1,6 +1,7 @@
-use Rattle.std.proofs.Common.{◌≡◌, ◌<◌, ◌+◌, ◌++◌, ◌∷◌, ◌∙◌, [], List, ap, append_assoc, drop, get_or, length, map, refl, suc, sym, zero, ℕ}
+use Rattle.std.proofs.Common.{◌≡◌, ◌<◌, ◌+◌, ◌++◌, ◌∷◌, ◌∙◌, [], List, ap, append_assoc, drop, get_or, length, map, refl, suc, sym, zero, ℕ, arith}
 use Rattle.std.proofs.lemmas.List.{at_drop_more}
 use Rattle.edit_line.specs.Shapes.{Domain, domain_with, whole_sets}
+use Rattle.std.proofs.lemmas.Grind.{common_steps}
 use Rattle.edit_line.proofs.shape.Shape.whole_sets.Goals as goal
 
 whole-first : (count : ℕ) (shape : List Domain) → whole_sets (domain_with count ∷ []) ++ whole_sets shape ≡ whole_sets (domain_with count ∷ shape)
@@ -20,3 +21,6 @@ wholes-more counts before after all i below so_far after_is =
 pub loop-count-preserved : goal.loop-count-preserved
 loop-count-preserved c = wholes-more c.code_counts-count-items.result.now c.loop-count.sets.items c.push_whole.new.sets.items _ c.loop-count.count-index
     c.loop-count-test.true c.loop-count.invariant c.in_ok-push_whole.ensures
+
+pub returns : goal.returns
+returns c = grind (arith, common_steps)
