@@ -32,7 +32,7 @@ module _ {last : ClassPassState} {old now : List ClassPassState} {i : ℕ} (take
   here = ap (λ (l : List ClassPassState). get_or l i d) at-now
       ∙ get_or_at (map shorter (take i old)) (get_or old i d) (drop (i + 1) old) d i size
 
-  classes-are : (get_or now i d).classes ≡ last.classes
+  pub classes-are : (get_or now i d).classes ≡ last.classes
   classes-are = ap (λ (q : ClassPassState). q.classes) here ∙ taken.same i d taken.within
 
   long : i < length now

@@ -1,7 +1,9 @@
 use Rattle.std.proofs.Common.{◌≡◌, ◌∙◌, ℕ, ◌<◌, ◌≤◌, [], Global, List, Vec, ap, arith, get_or, length, map, refl, subst, sym, take}
-use Rattle.std.proofs.lemmas.List.{length-set, length-take}
+use Rattle.std.specs.List.{All}
+use Rattle.std.proofs.lemmas.List.{length-map, length-set, length-take, length-take-le, take_all}
 use Rattle.std.proofs.lemmas.List.Elements.{All-map}
 use Rattle.class_books.specs.inner.Numbers.{AreNumbered}
+use Rattle.std.proofs.lemmas.Result.{IfOk-from_err}
 use Rattle.class_books.proofs.ClassTables.{numbered-none, numbered-turn, rows-few, rows-read}
 use Rattle.class_books.proofs.classes.Classes.of.Goals as goal
 use Rattle.class_books.proofs.classes.Classes.of.Goals.{After-index_mut-of_class}
@@ -63,3 +65,56 @@ loop-row_no-preserved c =
       count = length-set loop.rows.items (get_or list loop.row_no 0) new ∙ loop.invariant.count;
       room = c.push_reserved.ensures.capacity ∙ loop.invariant.room;
     }
+
+pub index_mut-of_class-requires : goal.index_mut-of_class-requires
+index_mut-of_class-requires c =
+    let row = c.loop-row_no.row_no in
+    let value = c.deref-class-items.ensures.value in
+    let small = c.requires.classes row 0 (subst (λ (l : List ℕ). row < length l) value c.loop-row_no-test.true) in
+    let within : get_or c.deref-class-items.result.now row 0 < c.args.classes = subst (λ (l : List ℕ). get_or l row 0 < c.args.classes) (sym value) small in
+    let count = c.loop-row_no.invariant.count in
+    omega (arith, within, count, c.loop-row_no.rows.ok.0)
+
+pub push_reserved-requires : goal.push_reserved-requires
+push_reserved-requires c =
+    let loop = c.loop-row_no in
+    let lt = c.loop-row_no-test.true in
+    let inv = loop.invariant in
+    let numbered = inv.are.as_many in
+    let room = inv.room in
+    let taken = length-take-le loop.row_no c.deref-class-items.result.now (omega (arith, lt)) in
+    let size = ap length c.deref-class-items.ensures.value in
+    omega (arith, lt, numbered, room, taken, size, loop.numbers.ok.0, c.in_ok-numbers.ensures.capacity, c.len.ensures, c.args.class_of.ok.0)
+
+pub overflow_cast-row_no : goal.overflow_cast-row_no
+overflow_cast-row_no c =
+    let size = ap length c.deref-class-items.ensures.value in
+    record { fits = omega (arith, size, c.loop-row_no-test.true, c.requires.rows) }
+
+pub returns-in_err-rows : goal.returns-in_err-rows
+returns-in_err-rows c = IfOk-from_err _ _ c.from_residual.ensures.0
+
+pub returns-in_err-numbers : goal.returns-in_err-numbers
+returns-in_err-numbers c = IfOk-from_err _ _ c.from_residual-in_err-numbers.ensures.0
+
+pub returns-in_err-push : goal.returns-in_err-push
+returns-in_err-push c = IfOk-from_err _ _ c.from_residual-in_err-push.ensures.0
+
+pub invariant_of-result : goal.invariant_of-result
+invariant_of-result c =
+    let loop = c.loop-row_no in
+    let list = c.deref-class-items.result.now in
+    let rows = map items loop.rows.items in
+    let count : length rows ≡ c.args.classes = length-map loop.rows.items items ∙ loop.invariant.count in
+    let all : take loop.row_no list ≡ c.args.class_of.items = take_all loop.row_no list (omega (arith, c.loop-row_no-test.false))
+    ∙ c.deref-class-items.ensures.value in
+    record {
+      few = c.requires.rows;
+      within = subst (λ n. All (λ class. class < n) c.args.class_of.items) (sym count) c.requires.classes;
+      are = subst (λ (l : List ℕ). AreNumbered l loop.numbers.items rows) all loop.invariant.are;
+    }
+
+pub returns : goal.returns
+returns c =
+    let count = c.loop-row_no.invariant.count in
+    λ i. record { class_of = c.args.class_of.items; classes = count i; limit = c.args.limit; passes = c.args.passes }
