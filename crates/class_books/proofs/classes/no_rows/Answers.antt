@@ -21,10 +21,11 @@ pub loop-preserved : goal.loop-preserved
 loop-preserved c =
     let inv = c.loop.invariant in
     let rows = c.loop.rows.items in
-    let items = c.push_reserved.ensures.items in
-    ( ap length items ∙ length_push rows c.new.result ∙ ap (λ n. n + 1) inv.0
-    , subst (All IsEmpty) (sym items) (All-push IsEmpty rows c.new.result inv.1 c.new.ensures.items)
-    , c.push_reserved.ensures.capacity ∙ inv.2 )
+    let items = c.push_reserved.ensures.items in (
+      ap length items ∙ length_push rows c.new.result ∙ ap (λ n. n + 1) inv.0,
+      subst (All IsEmpty) (sym items) (All-push IsEmpty rows c.new.result inv.1 c.new.ensures.items),
+      c.push_reserved.ensures.capacity ∙ inv.2,
+    )
 
 pub returns-clause-as_many : goal.returns-clause-as_many
 returns-clause-as_many c = omega (arith, c.loop.invariant.0, c.loop-test.false, c.loop.auto.counter-end)

@@ -1,4 +1,5 @@
-use Rattle.std.proofs.Common.{◌≡◌, ◌↔◌, ◌==◌, ◌<◌, ◌++◌, ◌∷◌, [], ◌∙◌, ap, bit_xor, if◌then◌else◌, length, slice_index_or, slice_set, subst, sym, List, ℕ, arith}
+use Rattle.std.proofs.Common.{◌≡◌, ◌↔◌, ◌==◌, ◌<◌, ◌++◌, ◌∷◌, [], ◌∙◌, ap, bit_xor, if◌then◌else◌, length, slice_index_or, slice_set, subst, sym, List, ℕ}
+use Rattle.std.proofs.Common.{arith}
 use Rattle.edit_line.specs.Lines.{AllHold, LineHolds, LineParts}
 use Rattle.edit_line.specs.Shapes.{Domain, whole_sets}
 use Rattle.edit_line.specs.Negations.{negation_of, never}
