@@ -1,7 +1,9 @@
-use Rattle.std.proofs.Common.{rules, take}
+use Rattle.std.proofs.Common.{◌∙◌, ◌<◌, All, List, ap, arith, length, rules, subst, sym, take}
+use Rattle.std.proofs.lemmas.List.{take_all}
 use Rattle.std.specs.Bool.{Decides}
 use Rattle.std.proofs.lemmas.Bool.Decides.{not_from_Decides}
-use Rattle.donor_book.specs.Entries.{wins_of}
+use Rattle.donor_book.specs.declared.claim.Entry.{Entry}
+use Rattle.donor_book.specs.Entries.{IsEntryWithin, IsLegalHistory, wins_of}
 use Rattle.donor_book.specs.inner.Indexes.{IsNext}
 use Rattle.donor_book.proofs.ReplayLaws.{donor_within, first_at, read_more, read_none, room_within}
 use Rattle.donor_book.proofs.replay.first_illegal.Goals as goal
@@ -42,3 +44,25 @@ loop-place-preserved c =
     rw (c.note_claim.ensures.uses, c.note_claim.ensures.replies)
     (read_more c.args.limit c.args.donors c.args.rows c.args.claims.now c.loop-place.place c.index-claims-place.result c.loop-place.uses.items
     c.loop-place.replies.items c.loop-place.invariant c.loop-place-test.true c.index-claims-place.is c.requires.within ((told at).0 c.if-not-is_next.false))
+
+pub is_next-requires : goal.is_next-requires
+is_next-requires c =
+    let entry = c.index-claims-place.result in
+    let within = subst (IsEntryWithin c.args.donors c.args.rows) (sym c.index-claims-place.is)
+    (c.requires.within c.loop-place.place entry c.loop-place-test.true) in
+    let inv = c.loop-place.invariant in
+    ( subst (λ n. entry.row_no < n) (sym (ap length c.deref-in-loop-place.ensures.value ∙ inv.2)) within.0
+    , subst (λ n. All (λ donor. donor < n) entry.ranking) (sym (ap length c.deref.ensures.value ∙ inv.1)) within.1 )
+
+pub note_claim-requires-clause-row : goal.note_claim-requires-clause-row
+note_claim-requires-clause-row c =
+    let entry = c.index-claims-place.result in
+    let within = subst (IsEntryWithin c.args.donors c.args.rows) (sym c.index-claims-place.is)
+    (c.requires.within c.loop-place.place entry c.loop-place-test.true) in
+    subst (λ n. entry.row_no < n) (sym c.loop-place.invariant.2) within.0
+
+pub returns-clause-legal : goal.returns-clause-legal
+returns-clause-legal c =
+    let claims = c.args.claims.now in
+    subst (λ (l : List Entry). IsLegalHistory c.args.limit l) (take_all c.loop-place.place claims (omega (arith, c.loop-place-test.false)))
+    c.loop-place.invariant.0.0

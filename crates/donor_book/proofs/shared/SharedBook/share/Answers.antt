@@ -1,8 +1,9 @@
-use Rattle.std.proofs.Common.{rules, arith, ℕ, [], ◌∷◌, length, length-append, ap, ◌∙◌, sym, subst}
+use Rattle.std.proofs.Common.{rules, arith, ◌≡◌, ℕ, ◌+◌, List, [], ◌∷◌, length, length-append, ap, ◌∙◌, refl, sym, subst}
 use Rattle.std.specs.List.{All}
-use Rattle.std.proofs.lemmas.List.Elements.{All-push}
+use Rattle.std.proofs.lemmas.List.Elements.{All-nil, All-push}
 use Rattle.atomic_table.specs.Seated.{TableId}
-use Rattle.donor_book.specs.Passes.{BookName, IsFresh}
+use Rattle.donor_book.specs.Passes.{BookName, IsFresh, PassState}
+use Rattle.donor_book.specs.inner.Rule.{known}
 use Rattle.donor_book.proofs.Moves.{begins, splits_as}
 use Rattle.donor_book.specs.declared.rule.Terms.{Terms}
 use Rattle.donor_book.proofs.shared.SharedBook.share.Goals as goal
@@ -59,3 +60,53 @@ returns-clause-fresh c =
     let name = name_of terms c.in_ok-table.table.shared.table_id in
     let fresh : IsFresh name c.in_ok-fresh-2.field-0 = subst (λ (n : BookName). IsFresh n c.in_ok-fresh-2.field-0) (ap (name_of terms) inv.3) f in
     subst (All (IsFresh name)) (sym push.items) (All-push (IsFresh name) c.loop.all.items c.in_ok-fresh-2.field-0 inv.2 fresh)
+
+pub loop-init : goal.loop-init
+loop-init c =
+    let name = name_of (terms_of c.args.limit c.args.donors c.args.rows c.args.passes) c.in_ok-table.table.shared.table_id in
+    let empty = c.in_ok-all.ensures.items in
+    let t = c.in_ok-table.ensures in (
+      ap (λ (l : List PassState). length l + 1) empty,
+      refl,
+      subst (All (IsFresh name)) (sym empty) (All-nil (IsFresh name)),
+      t.2,
+      ap (λ m. m.1) t.4,
+      ap (λ m. m.0.terms) t.4,
+      ap (λ m. m.0.seen) t.4,
+      ap (λ m. m.0.mine) t.4,
+      ap (λ m. m.0.heard) t.4,
+      ap (λ m. m.0.passes + 1) t.4,
+    )
+
+pub fresh-requires-clause-seat : goal.fresh-requires-clause-seat
+fresh-requires-clause-seat c = c.split_seat-seat.ensures.4 ∙ ap (λ (t : Terms). (known t 1 [] [], [])) c.loop.invariant.5
+
+pub push_reserved-requires : goal.push_reserved-requires
+push_reserved-requires c =
+    let inv = c.loop.invariant in
+    omega (arith, inv.0, inv.1, c.loop.all.ok.0, c.in_ok-all.ensures.capacity, c.loop-test.true)
+
+pub push_reserved-requires-2 : goal.push_reserved-requires-2
+push_reserved-requires-2 c =
+    let inv = c.loop.invariant in
+    omega (arith, inv.0, inv.1, c.loop.all.ok.0, c.in_ok-all.ensures.capacity, c.loop.auto.counter-end, c.requires.passes)
+
+pub returns-clause-passes : goal.returns-clause-passes
+returns-clause-passes c =
+    let inv = c.loop.invariant in
+    let all : length c.loop.all.items + 1 ≡ c.args.passes = omega (arith, inv.0, c.loop-test.false, c.loop.auto.counter-end, c.requires.passes) in
+    ap length c.push_reserved-2.ensures.items ∙ length-append c.loop.all.items (c.in_ok-fresh-2.field-0 ∷ []) ∙ all
+
+pub invariant_of-book : goal.invariant_of-book
+invariant_of-book c =
+    let t = c.in_ok-table.ensures in
+    let size = ap length c.as_slice.ensures.value in (
+      omega (arith, t.0, size, c.in_ok-words.ensures.len, c.in_ok-words.words.ok.0),
+      t.1,
+      t.5,
+      c.requires.passes,
+      c.requires.rows,
+      c.requires.donors,
+      c.in_ok-history.ensures.items,
+      c.in_ok-history.ensures.capacity,
+    )
