@@ -119,7 +119,8 @@ returns-clause-gathered c =
     let state = state_with last.classes.terms.class_of (last_class last) in
     let of_class = state_in (last_class last) in
     let gathered : map state loop.room.items ≡ map of_class c.args.others.now.items =
-    loop.invariant.gathered ∙ ap (map of_class) (take_all loop.other-index old (omega (arith, c.loop-other-test.false)) ∙ c.deref_mut-other-items.ensures.value) in
+    loop.invariant.gathered
+    ∙ ap (map of_class) (take_all loop.other-index old (omega (arith, c.loop-other-test.false)) ∙ c.deref_mut-other-items.ensures.value) in
     let one : state c.into_parts-pass.result.0 ≡ of_class last = ap state c.into_parts-pass.ensures.pass ∙ c.take_last.ensures.state in
     ap (map state) c.push_reserved-2.ensures.items ∙ map_push state loop.room.items c.into_parts-pass.result.0 ∙ (λ j. gathered j ++ one j ∷ [])
     ∙ sym (map_push of_class c.args.others.now.items last)

@@ -13,9 +13,10 @@ push_reserved-requires c =
 
 pub loop-preserved : goal.loop-preserved
 loop-preserved c =
-    let inv = c.loop.invariant in
-    ( c.push_reserved.ensures.items ∙ ap (λ (l : List (Option (Option ℕ))). l ++ None ∷ []) inv.0 ∙ replicate_more c.loop.counter None
-    , c.push_reserved.ensures.capacity ∙ inv.1 )
+    let inv = c.loop.invariant in (
+      c.push_reserved.ensures.items ∙ ap (λ (l : List (Option (Option ℕ))). l ++ None ∷ []) inv.0 ∙ replicate_more c.loop.counter None,
+      c.push_reserved.ensures.capacity ∙ inv.1,
+    )
 
 pub returns : goal.returns
 returns c =

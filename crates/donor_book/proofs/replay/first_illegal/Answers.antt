@@ -50,9 +50,10 @@ is_next-requires c =
     let entry = c.index-claims-place.result in
     let within = subst (IsEntryWithin c.args.donors c.args.rows) (sym c.index-claims-place.is)
     (c.requires.within c.loop-place.place entry c.loop-place-test.true) in
-    let inv = c.loop-place.invariant in
-    ( subst (λ n. entry.row_no < n) (sym (ap length c.deref-in-loop-place.ensures.value ∙ inv.2)) within.0
-    , subst (λ n. All (λ donor. donor < n) entry.ranking) (sym (ap length c.deref.ensures.value ∙ inv.1)) within.1 )
+    let inv = c.loop-place.invariant in (
+      subst (λ n. entry.row_no < n) (sym (ap length c.deref-in-loop-place.ensures.value ∙ inv.2)) within.0,
+      subst (λ n. All (λ donor. donor < n) entry.ranking) (sym (ap length c.deref.ensures.value ∙ inv.1)) within.1,
+    )
 
 pub note_claim-requires-clause-row : goal.note_claim-requires-clause-row
 note_claim-requires-clause-row c =

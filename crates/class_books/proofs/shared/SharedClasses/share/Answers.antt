@@ -55,7 +55,8 @@ loop-class-init c =
 
 pub rows_of-requires : goal.rows_of-requires
 rows_of-requires c =
-    subst (λ (t : ClassTerms). c.loop-class.class < t.classes) (sym (c.deref.ensures ∙ c.in_ok-tables-2.ensures.ok ∙ c.in_ok-tables.ensures)) c.loop-class-test.true
+    subst (λ (t : ClassTerms). c.loop-class.class < t.classes) (sym (c.deref.ensures ∙ c.in_ok-tables-2.ensures.ok ∙ c.in_ok-tables.ensures))
+    c.loop-class-test.true
 
 pub deal-requires-clause-as_many : goal.deal-requires-clause-as_many
 deal-requires-clause-as_many c = c.in_ok-book.ensures.passes ∙ sym c.loop-class.invariant.passes
