@@ -15,6 +15,10 @@ pub record PanelFiles : Type 0 where
   pub own_key : ℕ
   pub last_key : ℕ
 
+-- these records and rows of the last period, with these columns of the key
+abbrev pub files_by_key : SheetParts → ℕ → SheetParts → ℕ → PanelFiles
+files_by_key own own_key last last_key = record { own = own; last = last; own_key = own_key; last_key = last_key }
+
 -- ---- rows by their keys
 
 -- the key of a row: its text in this column, without blanks at its ends

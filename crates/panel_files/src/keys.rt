@@ -3,7 +3,7 @@
 ghost use Rattle.std.specs.Prelude.{◌≡◌, ◌<◌, ℕ, [], All, List, IfOk, OnOk, length, map, slice_index_or};
 ghost use Rattle.std.specs.Map.{lookup};
 ghost use Rattle.std.specs.Str.{bytes_eq};
-ghost use Rattle.panel_files.specs.Joined.{key_of, last_rows, row_with_key};
+ghost use Rattle.panel_files.specs.Joined.{files_by_key, key_of, last_rows, row_with_key};
 ghost use Rattle.panel_files.specs.inner.KeyEntries.{IsNoted, row_after};
 ghost use Rattle.panel_files.specs.inner.KeyRows.{row_in};
 
@@ -111,7 +111,7 @@ pub fn last_rows(
 ) -> Result<Vec<Option<u32>>, OutOfMemory>
     requires own { All (λ texts. own_key < length texts) own.now.row_texts }
     requires last { All (λ texts. last_key < length texts) last.now.row_texts }
-    ensures { IfOk result (λ rows. rows.items ≡ last_rows (record { own = own.now; last = last.now; own_key = own_key; last_key = last_key })) }
+    ensures { IfOk result (λ rows. rows.items ≡ last_rows (files_by_key own.now own_key last.now last_key)) }
 {
     let table = KeyTable::of(alloc, last, last_key)?;
     table.rows_for(alloc, own, own_key)
