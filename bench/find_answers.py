@@ -9,7 +9,7 @@ that it leaves with one call of `grind`, and what is left with another. The call
 stay there where its goals then take at least 0.3 seconds less. Read what it wrote, and prove the crate, before you keep it.
 
 How to read a line: a function, the seconds that its goals took before and take now, and the goals that have an answer now. A function for
-which a try takes more than a minute is left as it is, and named. The last line has the sums.
+which a try takes longer than the check of all of the crate did is left as it is, and named. The last line has the sums.
 
 The crates below are proved first, in the tree in which ./forxainde proves the program, where they are not proved there.
 """
@@ -26,7 +26,7 @@ import time
 
 sys.dont_write_bytecode = True
 
-from proof_times import name_of
+from proof_times import seconds_of_modules
 from starter import TOP, forxainde
 
 CALLS = ("search rules depth 3", "grind (arith, common_steps)", "grind (arith, elements)")
@@ -37,7 +37,6 @@ HOME_OF = {
     "elements": "Rattle.std.proofs.lemmas.Grind",
 }
 LEAST_GAIN = 0.3  # seconds
-LONGEST_TRY = 60  # seconds for each function
 GOAL = re.compile(r"^pub (\S+) : goal\.\S+\n\1((?: \S+)*) = \?", re.M)
 
 
@@ -45,11 +44,7 @@ class Tried:
     """What a check of some functions came to: the seconds of each module, the goals whose answers were refused, what was proved."""
 
     def __init__(self, crate, begun, kept, said):
-        files = [f"{folder}/{name}" for folder, _, names in os.walk(kept) for name in names if name.endswith(".oantt")]
-        self.seconds, before = collections.Counter(), begun
-        for when, file in sorted((os.stat(file).st_mtime, file) for file in files):
-            self.seconds[name_of(file, crate)] += when - before
-            before = when
+        self.seconds = seconds_of_modules(crate, begun, kept)
         self.refused = set(re.findall(r"^\./proofs/(.*)/Answers\.antt:\d+:\d+: error: `([^`]+)`", said, re.M))
         self.proved = set(re.findall(rf"^fn {crate.name}::(\S+): proved", said, re.M))
 
@@ -71,23 +66,26 @@ class Finder:
         self.rt, self.crate = rt, crate
         self.words = crate.words(["--jobs", "1"], keeps=False)
 
-    def check(self, functions, longest=None):
-        """Checks these functions, or all of the crate. None where that takes longer than allowed."""
+    def check(self, functions, longest=None, kept=None):
+        """Checks these functions, or all of the crate, and keeps in this folder what was checked. None where that takes longer than
+        allowed."""
+        if not kept:
+            with tempfile.TemporaryDirectory(prefix="find-answers-") as kept:
+                return self.check(functions, longest, kept)
         only = [word for function in functions for word in ("--only", function)]
-        with tempfile.TemporaryDirectory(prefix="find-answers-") as kept:
-            begun = time.time()
-            words = [*self.rt.guarded(), self.rt.RATTLE, "check", *self.words, *only, "--incremental", kept]
-            how = {"stdin": subprocess.DEVNULL, "stdout": subprocess.PIPE, "stderr": subprocess.STDOUT, "text": True, "errors": "replace"}
-            with subprocess.Popen(words, cwd=self.crate.folder, **how) as ran:
-                try:
-                    said, _ = ran.communicate(timeout=longest)
-                except subprocess.TimeoutExpired:
-                    subprocess.run(["pkill", "-KILL", "-P", str(ran.pid)], check=False)
-                    ran.kill()
-                    return None
-            if not re.search(r"^only=|^logic=proved" if functions else r"^logic=proved", said, re.M):
-                raise forxainde.NotBuilt(f"{self.crate.name} is not checked: {said[-600:]}")
-            return Tried(self.crate, begun, kept, said)
+        begun = time.time()
+        words = [*self.rt.guarded(), self.rt.RATTLE, "check", *self.words, *only, "--incremental", kept]
+        how = {"stdin": subprocess.DEVNULL, "stdout": subprocess.PIPE, "stderr": subprocess.STDOUT, "text": True, "errors": "replace"}
+        with subprocess.Popen(words, cwd=self.crate.folder, **how) as ran:
+            try:
+                said, _ = ran.communicate(timeout=longest)
+            except subprocess.TimeoutExpired:
+                subprocess.run(["pkill", "-KILL", "-P", str(ran.pid)], check=False)
+                ran.kill()
+                return None
+        if not re.search(r"^only=|^logic=proved" if functions else r"^logic=proved", said, re.M):
+            raise forxainde.NotBuilt(f"{self.crate.name} is not checked: {said[-600:]}")
+        return Tried(self.crate, begun, kept, said)
 
     def slow_functions(self, tried, least):
         """The functions whose goals took so long, the slowest first; none of a cycle of calls, and no closure."""
@@ -98,11 +96,12 @@ class Finder:
     def path(self, function, top=None):
         return f"{top or self.crate.folder}/proofs/{function.replace('::', '/')}/Answers.antt"
 
-    def goals(self, functions):
-        """The goals of each function that have no answer: their names, and the parameters of their answers."""
+    def goals(self, functions, kept):
+        """The goals of each function that have no answer: their names, and the parameters of their answers. The crate was checked, and
+        what was checked stands in this folder."""
         with tempfile.TemporaryDirectory(prefix="find-answers-") as made:
             start = [word for function in functions for word in ("--start", function)]
-            words = [*self.rt.guarded(), self.rt.RATTLE, "check", *self.words, *start, "--generated", made]
+            words = [*self.rt.guarded(), self.rt.RATTLE, "check", *self.words, *start, "--incremental", kept, "--generated", made]
             silent = {"stdin": subprocess.DEVNULL, "stdout": subprocess.DEVNULL, "stderr": subprocess.DEVNULL}
             subprocess.run(words, cwd=self.crate.folder, check=False, **silent)
             found = {}
@@ -127,27 +126,29 @@ class Finder:
             with open(path, "w", encoding="utf-8") as file:
                 file.write(before)
 
-    def try_call(self, call, left, before):
-        """Answers all goals that are left by one call; returns what came of it for each function, none where it took too long."""
+    def try_call(self, call, left, before, longest):
+        """Answers all goals that are left by one call; returns what came of it for each function, none where it took longer than so many
+        seconds."""
         for function, goals in left.items():
             self.write(function, before[function], [(*goal, call) for goal in goals])
-        tried = self.check(list(left), LONGEST_TRY + 15 * len(left))
+        tried = self.check(list(left), 2 * longest)
         if tried:
             return {function: tried for function in left}
-        each = {function: self.check([function], LONGEST_TRY) for function in left}
+        each = {function: self.check([function], longest) for function in left}
         return {function: tried for function, tried in each.items() if tried}
 
     def find(self, least):
         """Finds answers; returns for each function that keeps some the seconds before and now, and the goals."""
-        whole = self.check([])
-        left = self.goals(self.slow_functions(whole, least))
+        with tempfile.TemporaryDirectory(prefix="find-answers-") as kept:
+            whole = self.check([], kept=kept)
+            left = self.goals(self.slow_functions(whole, least), kept)
         before = {function: forxainde.text_of(self.path(function)) for function in left}
         before = {function: text or None for function, text in before.items()}
         answers = collections.defaultdict(list)
         for call in CALLS:
-            results = self.try_call(call, left, before) if left else {}
+            results = self.try_call(call, left, before, sum(whole.seconds.values())) if left else {}
             for function in [it for it in left if it not in results]:
-                print(f"{function}: a try takes more than {LONGEST_TRY} seconds", flush=True)
+                print(f"{function}: a try takes longer than the check of the crate did", flush=True)
                 left.pop(function)
                 answers.pop(function, None)
             for function, tried in results.items():

@@ -31,15 +31,25 @@ from starter import forxainde
 
 
 def checked_modules(rt, crate, kept):
-    """Checks the crate from nothing; returns when it was begun, and when each module was written, in that order."""
+    """Checks the crate from nothing; returns the seconds that each module took."""
     words = ["check", *crate.words(["--jobs", "1"], keeps=False), "--incremental", kept]
     begun = time.time()
     silent = {"stdin": subprocess.DEVNULL, "stdout": subprocess.DEVNULL, "stderr": subprocess.DEVNULL}
     ran = subprocess.run([*rt.guarded(), rt.RATTLE, *words], cwd=crate.folder, **silent)
     if ran.returncode:
         raise forxainde.NotBuilt(f"{crate.name} is not proved: rt check says why")
+    return seconds_of_modules(crate, begun, kept)
+
+
+def seconds_of_modules(crate, begun, kept):
+    """The seconds from when the module before was written, or the check was begun, until each module was, of what a check left in a
+    folder."""
     files = [f"{folder}/{name}" for folder, _, names in os.walk(kept) for name in names if name.endswith(".oantt")]
-    return begun, sorted((os.stat(file).st_mtime, file) for file in files)
+    seconds, before = collections.Counter(), begun
+    for when, file in sorted((os.stat(file).st_mtime, file) for file in files):
+        seconds[name_of(file, crate)] += when - before
+        before = when
+    return seconds
 
 
 def name_of(file, crate):
@@ -86,14 +96,10 @@ def main(name, number):
         below = [it.name for it in crates[name].deps]
         if below:
             forxainde.prove_what_is_left(rt, crates, below)
-        begun, written = checked_modules(rt, crates[name], kept)
-    times, before = [], begun
-    for when, file in written:
-        times.append((when - before, name_of(file, crates[name])))
-        before = when
-    for seconds, module in sorted(times, reverse=True)[:number]:
-        print(f"{seconds:7.2f} {module}")
-    print(f"{before - begun:7.2f} in all")
+        seconds = checked_modules(rt, crates[name], kept)
+    for module, each in seconds.most_common(number):
+        print(f"{each:7.2f} {module}")
+    print(f"{sum(seconds.values()):7.2f} in all")
 
 
 if __name__ == "__main__":
