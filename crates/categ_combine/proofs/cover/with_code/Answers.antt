@@ -6,6 +6,7 @@ use Rattle.categ_combine.specs.BoxLists.{AreBoxesOver, reduce_from}
 use Rattle.categ_combine.specs.Covers.{row_of, with_code_from}
 use Rattle.categ_combine.specs.declared.box_from.BoxFrom.{BoxFrom}
 use Rattle.categ_combine.proofs.OriginLaws.{over-with_code}
+use Rattle.std.proofs.lemmas.Grind.{common_steps}
 use Rattle.categ_combine.proofs.cover.with_code.Goals as goal
 
 pub returns-clause-over : goal.returns-clause-over
@@ -19,3 +20,9 @@ returns-clause-over c =
     over-with_code c.args.at.now.spot.place c.args.at.now.spot.whole (domains c.args.at.now.spot.shape) c.args.boxes.now c.args.covers.now
     c.args.at.now.code c.requires.covers
     )
+
+pub loop-cover-preserved : goal.loop-cover-preserved
+loop-cover-preserved c = grind (arith, common_steps)
+
+pub returns-clause-next : goal.returns-clause-next
+returns-clause-next c = grind (arith, common_steps)

@@ -9,6 +9,7 @@ use Rattle.categ_combine.proofs.AvoidLaws.{failing-avoids}
 use Rattle.categ_combine.proofs.BoxOrigins.{failing-comes}
 use Rattle.categ_combine.proofs.FailingLaws.{failing-end, failing-fault, failing-faults, failing-next, failing-sets}
 use Rattle.categ_combine.proofs.OverLaws.{over-failing}
+use Rattle.std.proofs.lemmas.Grind.{common_steps}
 use Rattle.categ_combine.proofs.failing.boxes_of.Goals as goal
 
 pub returns-in-Err-clause-overflow : goal.returns-in-Err-clause-overflow
@@ -58,3 +59,6 @@ pub returns-clause-apart : goal.returns-clause-apart
 returns-clause-apart c =
     apart-failing 0 c.args.lines.now c.args.row.now [] c.loop-i.kept.items tt
     (sym c.loop-i.invariant ∙ failing-end c.args.lines.now c.args.row.now c.loop-i.kept.items c.loop-i.i (omega arith))
+
+pub returns-clause-exact : goal.returns-clause-exact
+returns-clause-exact c = grind (arith, common_steps)

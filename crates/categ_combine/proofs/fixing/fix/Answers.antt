@@ -1,4 +1,4 @@
-use Rattle.std.proofs.Common.{◌≡◌, sym, subst, ◌∙◌}
+use Rattle.std.proofs.Common.{◌≡◌, sym, subst, ◌∙◌, arith}
 use Rattle.edit_line.specs.Domains.{domains}
 use Rattle.categ_combine.specs.Apart.{LieApart}
 use Rattle.categ_combine.specs.BoxLists.{AreBoxesOver, ForShape, SayWithCode, reduce_from, sets_of}
@@ -10,6 +10,7 @@ use Rattle.categ_combine.proofs.ApartLaws.{apart-reduced, ok-so}
 use Rattle.categ_combine.proofs.BoxOrigins.{fixed-comes}
 use Rattle.categ_combine.proofs.OverLaws.{over-fixed}
 use Rattle.categ_combine.proofs.StepLaws.{first-shape, fixed-exact, fixed-same, fixed-sets, if_ok}
+use Rattle.std.proofs.lemmas.Grind.{common_steps}
 use Rattle.categ_combine.proofs.fixing.fix.Goals as goal
 
 pub returns-in-Some-clause-over : goal.returns-in-Some-clause-over
@@ -78,3 +79,12 @@ returns-in-Some-clause-apart c =
     c.fix_at.result (
     λ left is. subst (λ bs. LieApart bs) (sym is) (apart-reduced (each_from (fixed_one spot.place spot.whole c.args.code) 0 c.args.boxes.now))
     ) c.fix_at.ensures.left
+
+pub returns-in-None-clause-exact : goal.returns-in-None-clause-exact
+returns-in-None-clause-exact c = grind (arith, common_steps)
+
+pub returns-in-None-clause-sets : goal.returns-in-None-clause-sets
+returns-in-None-clause-sets c = grind (arith, common_steps)
+
+pub returns-in-None-clause-same : goal.returns-in-None-clause-same
+returns-in-None-clause-same c = grind (arith, common_steps)

@@ -1,4 +1,4 @@
-use Rattle.std.proofs.Common.{◌+◌, [], List, drop, get_or, inl, sym, ap, ◌∙◌, subst}
+use Rattle.std.proofs.Common.{◌+◌, [], List, drop, get_or, inl, sym, ap, ◌∙◌, subst, arith}
 use Rattle.std.specs.List.{fold}
 use Rattle.std.proofs.Math.Seq.{drop-cons}
 use Rattle.std.proofs.lemmas.List.Elements.{All-more}
@@ -10,6 +10,7 @@ use Rattle.categ_combine.specs.declared.box_from.BoxFrom.{BoxFrom}
 use Rattle.categ_combine.specs.inner.Clear.{AllClear}
 use Rattle.categ_combine.proofs.ApartLaws.{clear-more, within-spot}
 use Rattle.categ_combine.proofs.EachLaws.{each-taken}
+use Rattle.std.proofs.lemmas.Grind.{common_steps}
 use Rattle.categ_combine.proofs.fixing.fix_at.Goals as goal
 
 pub take_fixed-requires-clause-clear : goal.take_fixed-requires-clause-clear
@@ -35,3 +36,9 @@ loop-i-preserved c =
           (clear-more c.args.by.now.spot.place c.args.by.now.spot.whole c.args.by.now.code boxes c.loop-i.kept.items i own (c.requires.apart known)
           c.loop-i-test.true c.args.by.now.spot.stands.some fits (c.loop-i.invariant.2 known)),
     )
+
+pub returns-clause-left : goal.returns-clause-left
+returns-clause-left c = grind (arith, common_steps)
+
+pub returns-clause-fit : goal.returns-clause-fit
+returns-clause-fit c = grind (arith, common_steps)

@@ -1,5 +1,6 @@
-use Rattle.std.proofs.Common.{◌∙◌, sym, take}
+use Rattle.std.proofs.Common.{◌∙◌, sym, take, arith}
 use Rattle.cert_check.proofs.ClaimLaws.{claims-within, none-right}
+use Rattle.std.proofs.lemmas.Grind.{common_steps}
 use Rattle.cert_check.proofs.claims_check.wrong_claim.Goals as goal
 
 pub returns-then-is_empty : goal.returns-then-is_empty
@@ -16,3 +17,9 @@ first_illegal-requires c =
       within = rw c.claims-claims.ensures (claims-within survey rows p c.len-count.result (take c.formed_count-formed.result p.claims)
           c.len-count.ensures.rows c.requires.one_each formed.formed);
     }
+
+pub returns-in-Some : goal.returns-in-Some
+returns-in-Some c = grind (arith, common_steps)
+
+pub returns : goal.returns
+returns c = grind (arith, common_steps)

@@ -6,6 +6,7 @@ use Rattle.derivation.specs.Refutations.{refutation_of}
 use Rattle.cert_check.specs.Dropped.{refutation_fault}
 use Rattle.cert_check.proofs.PlaceLaws.{read-at}
 use Rattle.cert_check.proofs.VerdictsLoop.{lent-over, lent-premises, undropped-fault}
+use Rattle.std.proofs.lemmas.Grind.{common_steps}
 use Rattle.cert_check.proofs.dropped.refutation_fault.Goals as goal
 
 pub steps_fault-requires-clause-over : goal.steps_fault-requires-clause-over
@@ -31,3 +32,9 @@ returns-clause-found c = λ line at.
 
 pub negation-requires : goal.negation-requires
 negation-requires c = c.requires.not_equal c.index.result.now (read-at c.args.lines.now.items c.args.place c.index.result.now c.requires.place c.index.ensures)
+
+pub returns-clause-lines : goal.returns-clause-lines
+returns-clause-lines c = grind (arith, common_steps)
+
+pub returns-clause-left : goal.returns-clause-left
+returns-clause-left c = grind (arith, common_steps)

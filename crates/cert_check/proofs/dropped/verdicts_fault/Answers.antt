@@ -4,6 +4,7 @@ use Rattle.std.proofs.lemmas.List.{length-set}
 use Rattle.proof_grammar.specs.ProofLines.{verdict_lines}
 use Rattle.cert_check.proofs.CountLaws.{count-fits, count-more}
 use Rattle.cert_check.proofs.VerdictsLoop.{found-none, found-some}
+use Rattle.std.proofs.lemmas.Grind.{elements}
 use Rattle.cert_check.proofs.dropped.verdicts_fault.Goals as goal
 use Rattle.cert_check.proofs.dropped.verdicts_fault.Goals.{In-Some}
 
@@ -52,3 +53,6 @@ loop-place-preserved c =
       c.in_ok-behind.ensures.lines ∙ c.loop-place.invariant.2,
       length-set c.verdict_fault.new.left.items c.loop-place.place true ∙ ap length c.in_ok-behind.ensures.left ∙ c.loop-place.invariant.3,
     )
+
+pub loop-place-init : goal.loop-place-init
+loop-place-init c = grind (arith, elements)

@@ -8,6 +8,7 @@ use Rattle.record_text.proofs.SheetLaws.{columns_in_header, few_sheet_rows, one_
 use Rattle.cert_check.specs.inner.Answers.{audit_in}
 use Rattle.cert_check.proofs.LineNumbers.{all-lines}
 use Rattle.cert_check.proofs.AuditLaws.{claims-answers, counts-fit, file-answers, in-limits, record-answers, valid-answers}
+use Rattle.std.proofs.lemmas.Grind.{elements}
 use Rattle.cert_check.proofs.said_check.check_records.Goals as goal
 
 pub released_count-count-requires : goal.released_count-count-requires
@@ -114,3 +115,6 @@ pub overflow_add-records_line-in-Some-2 : goal.overflow_add-records_line-in-Some
 overflow_add-records_line-in-Some-2 c =
     let found = rw (c.in-Some-2.is, c.rows-saids.ensures) at c.in_ok-fault.ensures in
     omega (arith, all-lines c.args.said.now, c.requires.counted, c.records_line.ensures, found.2)
+
+pub overflow_add-records_line : goal.overflow_add-records_line
+overflow_add-records_line c = grind (arith, elements)

@@ -1,4 +1,4 @@
-use Rattle.std.proofs.Common.{◌<◌, ℕ, Some, ap, false, true, length, refl, rules, slice_set, subst, sym, ◌∙◌}
+use Rattle.std.proofs.Common.{◌<◌, ℕ, Some, ap, false, true, length, refl, rules, slice_set, subst, sym, ◌∙◌, arith}
 use Rattle.edit_line.specs.Boxes.{BoxParts}
 use Rattle.edit_line.specs.Sets.{AreSets}
 use Rattle.edit_line.specs.Shapes.{code_fields, shape_of, whole_sets}
@@ -7,6 +7,7 @@ use Rattle.derivation.specs.declared.proved.Proved.TheVariants.{Box}
 use Rattle.derivation.proofs.CodePlaces.{fixed-by, place-wholes, there-has, whole-made}
 use Rattle.derivation.proofs.FieldNumbers.{code-within}
 use Rattle.derivation.proofs.WholeBoxes.{whole-fits, within-box}
+use Rattle.std.proofs.lemmas.Grind.{common_steps}
 use Rattle.derivation.proofs.fixing.fix_at.Goals as goal
 
 pub offset_bounds-sets-place : goal.offset_bounds-sets-place
@@ -55,3 +56,6 @@ returns c =
     (c.in_ok-sets.ensures.items ∙ c.sets-2.ensures.sets) c.in_ok-whole.ensures)
     ∙ sym (fixed-by shape c.args.field c.args.place sets c.requires.place _ c.value.result.now c.sets.result.now true c.value.ensures
     c.sets.ensures.sets (sym c.has_value.ensures ∙ c.if-not-has_value.false))
+
+pub index_mut-requires : goal.index_mut-requires
+index_mut-requires c = grind (arith, common_steps)

@@ -4,6 +4,7 @@ use Rattle.std.specs.declared.alloc.Global.{Global}
 use Rattle.std.specs.Io.KnownBytes.{Consumes}
 use Rattle.std.proofs.KnownBytes.{Consumes-kept}
 use Rattle.edit_desk.proofs.FileLaws.{read_more, read_fits}
+use Rattle.std.proofs.lemmas.Grind.{common_steps}
 use Rattle.edit_desk.proofs.file.read_within.Goals as goal
 use Rattle.edit_desk.proofs.file.read_within.Goals.{in-Ok-2+in_ok-extend_from_slice-in-Ok-2, in-Err}
 
@@ -20,3 +21,6 @@ loop-preserved g c =
         subst (Consumes _ _) (sym (ap (λ (v : Vec ℕ Global). v.items) w.bytes-is)) (Consumes-kept _ _ _ _ c.loop.invariant.1 w.in-Err.ensures.bytes),
       )
     ]
+
+pub returns-in-Ok-clause-bytes : goal.returns-in-Ok-clause-bytes
+returns-in-Ok-clause-bytes g c = grind (arith, common_steps)

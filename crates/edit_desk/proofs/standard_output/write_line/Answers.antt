@@ -1,9 +1,10 @@
 -- What was written is some first bytes of the line.
-use Rattle.std.proofs.Common.{◌≡◌, ◌+◌, length, take, min, subst, sym}
+use Rattle.std.proofs.Common.{◌≡◌, ◌+◌, length, take, min, subst, sym, arith}
 use Rattle.std.specs.Io.KnownBytes.{Appends}
 use Rattle.std.proofs.KnownBytes.{Appends-trans, Appends-kept}
 use Rattle.edit_desk.specs.Printer.{line_of}
 use Rattle.edit_desk.proofs.PrinterLaws.{of_line, of_text}
+use Rattle.std.proofs.lemmas.Grind.{common_steps}
 use Rattle.edit_desk.proofs.standard_output.write_line.Goals as goal
 
 pub returns-in_err-write_whole-clause-part : goal.returns-in_err-write_whole-clause-part
@@ -26,3 +27,6 @@ returns-clause-part g c =
       subst (Appends _ _) (sym whole)
           (Appends-kept _ _ _ _ (Appends-trans _ _ _ _ _ c.in_ok-write_whole.ensures.whole c.in_ok-write_whole-2.ensures.whole) c.flush.ensures.bytes),
     )
+
+pub returns-clause-whole : goal.returns-clause-whole
+returns-clause-whole g c = grind (arith, common_steps)

@@ -1,6 +1,7 @@
-use Rattle.std.proofs.Common.{◌≡◌, ◌<◌, length, get_or}
+use Rattle.std.proofs.Common.{◌≡◌, ◌<◌, length, get_or, arith}
 use Rattle.std.proofs.lemmas.Bool.{MatchBool-at_false, MatchBool-at_true}
 use Rattle.edit_language.proofs.CodeLaws.{distinct_at, double_at}
+use Rattle.std.proofs.lemmas.Grind.{common_steps}
 use Rattle.edit_language.proofs.codes.has_double.Goals as goal
 
 pub returns-then-not-branch : goal.returns-then-not-branch
@@ -21,3 +22,6 @@ loop-code-preserved c =
     let new = MatchBool-at_true _ _ c.if-not-branch.false c.in_ok-insert-2.ensures in
     distinct_at c.args.list.now.first rest c.loop-code.code-index c.loop-code.seen code within c.loop-code.invariant.0 here c.insert-in-loop-code.new.self
     c.loop-code.invariant.1 new.0 new.1
+
+pub returns : goal.returns
+returns c = grind (arith, common_steps)

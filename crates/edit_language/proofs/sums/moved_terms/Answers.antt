@@ -1,4 +1,4 @@
-use Rattle.std.proofs.Common.{◌∙◌, FitsSigned, rules}
+use Rattle.std.proofs.Common.{◌∙◌, FitsSigned, rules, arith}
 use Rattle.std.proofs.lemmas.Int.{to_z-of_z}
 use Rattle.std.proofs.lemmas.Result.{IfOk-from_err}
 use mir.Syntax.{w64}
@@ -6,6 +6,7 @@ use Rattle.edit_model.specs.declared.field.Field.{Field}
 use Rattle.edit_language.specs.Faults.{is_large_factor}
 use Rattle.edit_language.proofs.FieldLaws.{fails_at}
 use Rattle.edit_language.proofs.SumLaws.{moved_more}
+use Rattle.std.proofs.lemmas.Grind.{common_steps}
 use Rattle.edit_language.proofs.sums.moved_terms.Goals as goal
 
 pub small_factor-requires-clause-small : goal.small_factor-requires-clause-small
@@ -23,3 +24,6 @@ loop-i-preserved c =
     moved_more c.args.left.now c.args.right.now c.args.fields.now c.loop-i.i c.index-fields-i.result
     _ c.loop-i.terms.items _ c.loop-i-test.true c.index-fields-i.is c.small_factor.ensures pushed
     ∙ c.loop-i.invariant
+
+pub returns : goal.returns
+returns c = grind (arith, common_steps)

@@ -1,6 +1,7 @@
-use Rattle.std.proofs.Common.{◌∙◌, add-one}
+use Rattle.std.proofs.Common.{◌∙◌, add-one, arith}
 use Rattle.record_text.proofs.ColumnLaws.{field_passed, stand_more}
 use Rattle.record_text.proofs.Refusals.{no_other_fault, no_value}
+use Rattle.std.proofs.lemmas.Grind.{common_steps}
 use Rattle.record_text.proofs.columns.find_columns.Goals as goal
 
 pub loop-number-preserved : goal.loop-number-preserved
@@ -29,3 +30,9 @@ returns-in_err-columns-clause-fault c = no_other_fault c.from_residual.result _ 
 
 pub returns-in_err-push-clause-fault : goal.returns-in_err-push-clause-fault
 returns-in_err-push-clause-fault c = no_other_fault c.from_residual-in_err-push.result _ _ c.from_residual-in_err-push.ensures.1
+
+pub returns-in_err-column-clause-fault : goal.returns-in_err-column-clause-fault
+returns-in_err-column-clause-fault c = grind (arith, common_steps)
+
+pub returns-clause-columns : goal.returns-clause-columns
+returns-clause-columns c = grind (arith, common_steps)

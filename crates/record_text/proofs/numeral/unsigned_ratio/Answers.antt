@@ -1,5 +1,6 @@
-use Rattle.std.proofs.Common.{◌∙◌, sym}
+use Rattle.std.proofs.Common.{◌∙◌, sym, arith}
 use Rattle.record_text.proofs.NumeralLaws.{digits_alone, from_place, none_so, quotient_around, some_so, with_point, with_stroke}
+use Rattle.std.proofs.lemmas.Grind.{common_steps}
 use Rattle.record_text.proofs.numeral.unsigned_ratio.Goals as goal
 
 pub returns-in_default-clause-none : goal.returns-in_default-clause-none
@@ -26,3 +27,6 @@ returns-else-text-place-eq46-clause-none c =
     (λ none p q numeral. none p q (rw (from_place c.args.text.now c.in-Some.place)
     (with_stroke c.args.text.now p q c.in-Some.place (sym c.mark_place.ensures
     ∙ c.in-Some.is) c.if-text-place-eq46.false numeral))) c.quotient_ratio.ensures.none
+
+pub returns-then-text-place-eq46-clause-some : goal.returns-then-text-place-eq46-clause-some
+returns-then-text-place-eq46-clause-some c = grind (arith, common_steps)

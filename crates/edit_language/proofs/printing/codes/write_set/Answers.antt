@@ -1,6 +1,7 @@
-use Rattle.std.proofs.Common.{sym, ◌∙◌}
+use Rattle.std.proofs.Common.{sym, ◌∙◌, arith}
 use Rattle.edit_language.proofs.PrintingSteps.{set_more_in, set_more_out}
 use Rattle.edit_language.proofs.printing.codes.write_set.Goals.{then-has_code+in_ok-write_code, else-has_code}
+use Rattle.std.proofs.lemmas.Grind.{common_steps}
 use Rattle.edit_language.proofs.printing.codes.write_set.Goals as goal
 
 pub loop-i-preserved : goal.loop-i-preserved
@@ -17,3 +18,6 @@ loop-i-preserved c =
           c.loop-i-test.true c.index-list-i.is (sym c.has_code.ensures ∙ w.if-has_code.false) inv.0 inv.1 in
           rw (w.text-is, w.first-is) same
     ]
+
+pub returns : goal.returns
+returns c = grind (arith, common_steps)
